@@ -1,0 +1,18 @@
+use Prim.Native.Nat.{ℕ}
+use mathlib.Core.List.{[], _∷_}
+use Rattle.std.specs.Written.{decimal}
+use Rattle.numerals.specs.Numbers.{Small}
+use Rattle.fields.specs.Fields.{spaced}
+use Rattle.std.proofs.shelf.Results.{err-from-errBy}
+use Rattle.fields.proofs.Apart.{number-then}
+use Rattle.fields.proofs.three_numbers.Needs as need
+
+pub returns-in-Break-b : need.returns-in-Break-b
+returns-in-Break-b c =
+    let p = err-from-errBy (c .from-residual-in-Break-b .result) (c .from-residual-in-Break-b .ensures .1) in
+    let a = c .in-Continue-a .ensures tt in
+    rw (p .1)
+    (λ x e h.
+    number-then (λ (q : ℕ × ℕ). spaced ((c .args .second .now, decimal (q .0)) ∷ (c .args .third .now, decimal (q .1)) ∷ [])) (λ (q : ℕ × ℕ). Small (q .0) × Small (q .1))
+    (c .args .first .now) (c .args .part .bytes .now) (c .in-Continue-a .rest .bytes .now) (c .in-Continue-a .a) (a .0) (a .1)
+    (c .in-Break-b .ensures tt) (x .0) (x .1, x .2) e (h .0) (h .1, h .2))

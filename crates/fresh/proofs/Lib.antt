@@ -1,0 +1,4 @@
+pub mod Rooms
+pub mod Sums
+pub mod Empty
+pub mod Makes

@@ -1,0 +1,61 @@
+-- The object graph: values, objects, registers, stacks.
+use Prim.Native.Nat.{ℕ, zero, suc, _+_, _*_, _<_, _≤_}
+use mathlib.Core.Path.{_≡_}
+use mathlib.Core.Bool.{Bool, true, false, cond}
+use mathlib.Core.List.{List, [], _∷_, _++_}
+use lib.ListN.{length, getD, set}
+pub use Rattle.kinds.specs.declared.kind.Kind.{Kind}
+pub use Rattle.kinds.specs.declared.kind.Kind.the-variants.{UVector as uvector, String as string, BVector as bvector, Symbol as symbol, List as list}
+
+-- a fixnum by its 28 bits of data
+pub data Immediate : Type 0 where
+  fixnum : ℕ → Immediate
+  character : ℕ → Immediate
+  null : Immediate
+  trap : Immediate
+
+pub data Value : Type 0 where
+  plain : Immediate → Value
+  ref : ℕ → Value
+
+pub record Object : Type 0 where
+  pub kind : Kind
+  pub access : ℕ
+  pub space : ℕ
+  pub frozen : Bool
+  pub cells : List Value
+
+pub record Binding : Type 0 where
+  pub symbol : ℕ
+  pub value : Value
+
+pub record Graph : Type 0 where
+  pub objects : List Object
+  pub registers : List Value
+  pub control : List Value
+  pub bindings : List Binding
+  pub edits : List ℕ
+  pub space : ℕ
+
+-- what an index past the end gives
+abbrev pub nothing : Object
+nothing = record { kind = list; access = 0; space = 0; frozen = false; cells = [] }
+
+abbrev pub object : Graph → ℕ → Object
+object g i = getD (g .objects) i nothing
+
+-- an object with cell k replaced
+abbrev pub celled : Object → ℕ → Value → Object
+celled o k v = record { kind = o .kind; access = o .access; space = o .space; frozen = o .frozen; cells = set (o .cells) k v }
+
+abbrev pub putCell : Graph → ℕ → ℕ → Value → Graph
+putCell g i k v = record { objects = set (g .objects) i (celled (object g i) k v); registers = g .registers; control = g .control; bindings = g .bindings; edits = g .edits; space = g .space }
+
+abbrev pub putRegister : Graph → ℕ → Value → Graph
+putRegister g r v = record { objects = g .objects; registers = set (g .registers) r v; control = g .control; bindings = g .bindings; edits = g .edits; space = g .space }
+
+abbrev pub addObject : Graph → Object → Graph
+addObject g o = record { objects = g .objects ++ o ∷ []; registers = g .registers; control = g .control; bindings = g .bindings; edits = g .edits; space = g .space }
+
+abbrev pub dynamic : Object → Type 0
+dynamic o = o .space ≡ 0

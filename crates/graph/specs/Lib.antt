@@ -1,0 +1,4 @@
+pub mod Graph
+pub mod Shape
+pub mod Lawful
+pub mod Calls

@@ -1,0 +1,2 @@
+pub mod Emplaced
+pub mod Made

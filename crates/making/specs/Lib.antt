@@ -1,0 +1,2 @@
+pub mod Make
+pub mod Makings

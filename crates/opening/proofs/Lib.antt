@@ -1,0 +1,4 @@
+pub mod Steps
+pub mod LineLaws
+pub mod Texts
+pub mod Promises

@@ -1,0 +1,1 @@
+// What calls promise: definitions only.

@@ -1,0 +1,4 @@
+pub mod Spaces
+pub mod View
+pub mod Checks
+pub mod Flow
