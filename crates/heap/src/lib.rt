@@ -5,7 +5,8 @@ ghost use Prim.Native.Nat.{ℕ};
 ghost use lib.ListN.{length};
 ghost use Rattle.graph.specs.Calls.{put as putCall, read as readCall, write as writeCall, tell as tellCall, same as sameCall, setSpace, freeze as freezeCall};
 ghost use Rattle.graph.specs.Calls.{makeList, makeSymbol, makeVector, makeString, makeWords};
-ghost use Rattle.access.specs.Access.{spaceDone};
+ghost use Rattle.access.specs.Access.{putDone, readDone, writeDone, tellDone, sameDone, freezeDone, spaceDone};
+ghost use Rattle.making.specs.Makings.{listMade, symbolMade, vectorMade, stringMade, wordsMade};
 ghost use Rattle.promises.specs.Promise.{Depicts, noted, notedBy};
 ghost use Rattle.opening.specs.Opening.{faultNoted, TextRuns, TextPromised};
 ghost use Rattle.std.specs.Vec.{made};
@@ -91,7 +92,7 @@ impl Heap {
 
     /// Sets a register to a fixnum, a character or null.
     pub fn put<M: WordMemory>(&mut self, memory: &mut M, control: &mut [u32], bindings: &mut [Binding], to: u32, value: Literal) -> Result<(), Refusal>
-        ensures promised { λ r. ⌜ Performs (λ short. putCall short to value) (now (self .entry)) (M·WordMemory .words (now (memory .entry))) (length (now (control .entry))) (length (now (bindings .entry)))
+        ensures promised { λ r. ⌜ Performs (λ short. putCall short to value) (λ c b. putDone c b to value) (now (self .entry)) (M·WordMemory .words (now (memory .entry))) (length (now (control .entry))) (length (now (bindings .entry)))
             (now (self .exit)) (M·WordMemory .words (now (memory .exit))) r ⌝ }
         ensures stacks { λ _. ⌜ (now (control .exit) ≡ now (control .entry)) × (now (bindings .exit) ≡ now (bindings .entry)) ⌝ }
         ensures lender { λ _. ⌜ M·WordMemory .lender (now (memory .exit)) ≡ M·WordMemory .lender (now (memory .entry)) ⌝ }
@@ -102,7 +103,7 @@ impl Heap {
 
     /// Makes a list of what two registers hold. A making answers how many words were cleaned.
     pub fn list<M: WordMemory>(&mut self, memory: &mut M, control: &mut [u32], bindings: &mut [Binding], to: u32, car: u32, cdr: u32) -> Result<u64, Refusal>
-        ensures promised { λ r. ⌜ Performs (λ short. makeList short to car cdr) (now (self .entry)) (M·WordMemory .words (now (memory .entry))) (length (now (control .entry))) (length (now (bindings .entry)))
+        ensures promised { λ r. ⌜ Performs (λ short. makeList short to car cdr) (λ c b. listMade c b to car cdr) (now (self .entry)) (M·WordMemory .words (now (memory .entry))) (length (now (control .entry))) (length (now (bindings .entry)))
             (now (self .exit)) (M·WordMemory .words (now (memory .exit))) r ⌝ }
         ensures stacks { λ _. ⌜ (now (control .exit) ≡ now (control .entry)) × (now (bindings .exit) ≡ now (bindings .entry)) ⌝ }
         ensures lender { λ _. ⌜ M·WordMemory .lender (now (memory .exit)) ≡ M·WordMemory .lender (now (memory .entry)) ⌝ }
@@ -113,7 +114,7 @@ impl Heap {
 
     /// Makes a symbol whose print name is the string in a register.
     pub fn symbol<M: WordMemory>(&mut self, memory: &mut M, control: &mut [u32], bindings: &mut [Binding], to: u32, name: u32) -> Result<u64, Refusal>
-        ensures promised { λ r. ⌜ Performs (λ short. makeSymbol short to name) (now (self .entry)) (M·WordMemory .words (now (memory .entry))) (length (now (control .entry))) (length (now (bindings .entry)))
+        ensures promised { λ r. ⌜ Performs (λ short. makeSymbol short to name) (λ c b. symbolMade c b to name) (now (self .entry)) (M·WordMemory .words (now (memory .entry))) (length (now (control .entry))) (length (now (bindings .entry)))
             (now (self .exit)) (M·WordMemory .words (now (memory .exit))) r ⌝ }
         ensures stacks { λ _. ⌜ (now (control .exit) ≡ now (control .entry)) × (now (bindings .exit) ≡ now (bindings .entry)) ⌝ }
         ensures lender { λ _. ⌜ M·WordMemory .lender (now (memory .exit)) ≡ M·WordMemory .lender (now (memory .entry)) ⌝ }
@@ -124,7 +125,7 @@ impl Heap {
 
     /// Makes a vector of so many entries, each what a register holds.
     pub fn vector<M: WordMemory>(&mut self, memory: &mut M, control: &mut [u32], bindings: &mut [Binding], to: u32, count: u32, fill: u32) -> Result<u64, Refusal>
-        ensures promised { λ r. ⌜ Performs (λ short. makeVector short to count fill) (now (self .entry)) (M·WordMemory .words (now (memory .entry))) (length (now (control .entry))) (length (now (bindings .entry)))
+        ensures promised { λ r. ⌜ Performs (λ short. makeVector short to count fill) (λ c b. vectorMade c b to count fill) (now (self .entry)) (M·WordMemory .words (now (memory .entry))) (length (now (control .entry))) (length (now (bindings .entry)))
             (now (self .exit)) (M·WordMemory .words (now (memory .exit))) r ⌝ }
         ensures stacks { λ _. ⌜ (now (control .exit) ≡ now (control .entry)) × (now (bindings .exit) ≡ now (bindings .entry)) ⌝ }
         ensures lender { λ _. ⌜ M·WordMemory .lender (now (memory .exit)) ≡ M·WordMemory .lender (now (memory .entry)) ⌝ }
@@ -135,7 +136,7 @@ impl Heap {
 
     /// Makes a string of so many characters, all with code 0.
     pub fn string<M: WordMemory>(&mut self, memory: &mut M, control: &mut [u32], bindings: &mut [Binding], to: u32, count: u32) -> Result<u64, Refusal>
-        ensures promised { λ r. ⌜ Performs (λ short. makeString short to count) (now (self .entry)) (M·WordMemory .words (now (memory .entry))) (length (now (control .entry))) (length (now (bindings .entry)))
+        ensures promised { λ r. ⌜ Performs (λ short. makeString short to count) (λ c b. stringMade c b to count) (now (self .entry)) (M·WordMemory .words (now (memory .entry))) (length (now (control .entry))) (length (now (bindings .entry)))
             (now (self .exit)) (M·WordMemory .words (now (memory .exit))) r ⌝ }
         ensures stacks { λ _. ⌜ (now (control .exit) ≡ now (control .entry)) × (now (bindings .exit) ≡ now (bindings .entry)) ⌝ }
         ensures lender { λ _. ⌜ M·WordMemory .lender (now (memory .exit)) ≡ M·WordMemory .lender (now (memory .entry)) ⌝ }
@@ -146,7 +147,7 @@ impl Heap {
 
     /// Makes an unboxed vector of so many entries of an access type, all 0.
     pub fn words<M: WordMemory>(&mut self, memory: &mut M, control: &mut [u32], bindings: &mut [Binding], to: u32, count: u32, access: u32) -> Result<u64, Refusal>
-        ensures promised { λ r. ⌜ Performs (λ short. makeWords short to count access) (now (self .entry)) (M·WordMemory .words (now (memory .entry))) (length (now (control .entry))) (length (now (bindings .entry)))
+        ensures promised { λ r. ⌜ Performs (λ short. makeWords short to count access) (λ c b. wordsMade c b to count access) (now (self .entry)) (M·WordMemory .words (now (memory .entry))) (length (now (control .entry))) (length (now (bindings .entry)))
             (now (self .exit)) (M·WordMemory .words (now (memory .exit))) r ⌝ }
         ensures stacks { λ _. ⌜ (now (control .exit) ≡ now (control .entry)) × (now (bindings .exit) ≡ now (bindings .entry)) ⌝ }
         ensures lender { λ _. ⌜ M·WordMemory .lender (now (memory .exit)) ≡ M·WordMemory .lender (now (memory .entry)) ⌝ }
@@ -157,7 +158,7 @@ impl Heap {
 
     /// Reads a cell or entry of an object into a register.
     pub fn read<M: WordMemory>(&mut self, memory: &mut M, control: &mut [u32], bindings: &mut [Binding], to: u32, from: u32, at: u32) -> Result<(), Refusal>
-        ensures promised { λ r. ⌜ Performs (λ short. readCall short to from at) (now (self .entry)) (M·WordMemory .words (now (memory .entry))) (length (now (control .entry))) (length (now (bindings .entry)))
+        ensures promised { λ r. ⌜ Performs (λ short. readCall short to from at) (λ c b. readDone c b to from at) (now (self .entry)) (M·WordMemory .words (now (memory .entry))) (length (now (control .entry))) (length (now (bindings .entry)))
             (now (self .exit)) (M·WordMemory .words (now (memory .exit))) r ⌝ }
         ensures stacks { λ _. ⌜ (now (control .exit) ≡ now (control .entry)) × (now (bindings .exit) ≡ now (bindings .entry)) ⌝ }
         ensures lender { λ _. ⌜ M·WordMemory .lender (now (memory .exit)) ≡ M·WordMemory .lender (now (memory .entry)) ⌝ }
@@ -168,7 +169,7 @@ impl Heap {
 
     /// Writes what a register holds into a cell or entry of an object.
     pub fn write<M: WordMemory>(&mut self, memory: &mut M, control: &mut [u32], bindings: &mut [Binding], into: u32, at: u32, value: u32) -> Result<(), Refusal>
-        ensures promised { λ r. ⌜ Performs (λ short. writeCall short into at value) (now (self .entry)) (M·WordMemory .words (now (memory .entry))) (length (now (control .entry))) (length (now (bindings .entry)))
+        ensures promised { λ r. ⌜ Performs (λ short. writeCall short into at value) (λ c b. writeDone c b into at value) (now (self .entry)) (M·WordMemory .words (now (memory .entry))) (length (now (control .entry))) (length (now (bindings .entry)))
             (now (self .exit)) (M·WordMemory .words (now (memory .exit))) r ⌝ }
         ensures stacks { λ _. ⌜ (now (control .exit) ≡ now (control .entry)) × (now (bindings .exit) ≡ now (bindings .entry)) ⌝ }
         ensures lender { λ _. ⌜ M·WordMemory .lender (now (memory .exit)) ≡ M·WordMemory .lender (now (memory .entry)) ⌝ }
@@ -179,7 +180,7 @@ impl Heap {
 
     /// Tells what a register holds.
     pub fn tell<M: WordMemory>(&mut self, memory: &mut M, control: &mut [u32], bindings: &mut [Binding], of: u32) -> Result<Told, Refusal>
-        ensures promised { λ r. ⌜ Performs (λ short. tellCall short of) (now (self .entry)) (M·WordMemory .words (now (memory .entry))) (length (now (control .entry))) (length (now (bindings .entry)))
+        ensures promised { λ r. ⌜ Performs (λ short. tellCall short of) (λ c b. tellDone c b of) (now (self .entry)) (M·WordMemory .words (now (memory .entry))) (length (now (control .entry))) (length (now (bindings .entry)))
             (now (self .exit)) (M·WordMemory .words (now (memory .exit))) r ⌝ }
         ensures stacks { λ _. ⌜ (now (control .exit) ≡ now (control .entry)) × (now (bindings .exit) ≡ now (bindings .entry)) ⌝ }
         ensures lender { λ _. ⌜ M·WordMemory .lender (now (memory .exit)) ≡ M·WordMemory .lender (now (memory .entry)) ⌝ }
@@ -190,7 +191,7 @@ impl Heap {
 
     /// Whether two registers hold one word.
     pub fn same<M: WordMemory>(&mut self, memory: &mut M, control: &mut [u32], bindings: &mut [Binding], left: u32, right: u32) -> Result<bool, Refusal>
-        ensures promised { λ r. ⌜ Performs (λ short. sameCall short left right) (now (self .entry)) (M·WordMemory .words (now (memory .entry))) (length (now (control .entry))) (length (now (bindings .entry)))
+        ensures promised { λ r. ⌜ Performs (λ short. sameCall short left right) (λ c b. sameDone c b left right) (now (self .entry)) (M·WordMemory .words (now (memory .entry))) (length (now (control .entry))) (length (now (bindings .entry)))
             (now (self .exit)) (M·WordMemory .words (now (memory .exit))) r ⌝ }
         ensures stacks { λ _. ⌜ (now (control .exit) ≡ now (control .entry)) × (now (bindings .exit) ≡ now (bindings .entry)) ⌝ }
         ensures lender { λ _. ⌜ M·WordMemory .lender (now (memory .exit)) ≡ M·WordMemory .lender (now (memory .entry)) ⌝ }
@@ -201,7 +202,7 @@ impl Heap {
 
     /// Read-only objects that there are take no writes from here on.
     pub fn freeze<M: WordMemory>(&mut self, memory: &mut M, control: &mut [u32], bindings: &mut [Binding]) -> Result<(), Refusal>
-        ensures promised { λ r. ⌜ Performs (λ short. freezeCall short) (now (self .entry)) (M·WordMemory .words (now (memory .entry))) (length (now (control .entry))) (length (now (bindings .entry)))
+        ensures promised { λ r. ⌜ Performs (λ short. freezeCall short) (λ c b. freezeDone c b) (now (self .entry)) (M·WordMemory .words (now (memory .entry))) (length (now (control .entry))) (length (now (bindings .entry)))
             (now (self .exit)) (M·WordMemory .words (now (memory .exit))) r ⌝ }
         ensures stacks { λ _. ⌜ (now (control .exit) ≡ now (control .entry)) × (now (bindings .exit) ≡ now (bindings .entry)) ⌝ }
         ensures lender { λ _. ⌜ M·WordMemory .lender (now (memory .exit)) ≡ M·WordMemory .lender (now (memory .entry)) ⌝ }
@@ -225,7 +226,7 @@ impl Heap {
 
     /// Sets the space that new objects go to: 0 dynamic, 2 static, 3 read-only.
     pub fn set_space<M: WordMemory>(&mut self, memory: &mut M, control: &mut [u32], bindings: &mut [Binding], space: u32) -> Result<(), Refusal>
-        ensures promised { λ r. ⌜ Performs (λ short. setSpace short space) (now (self .entry)) (M·WordMemory .words (now (memory .entry))) (length (now (control .entry))) (length (now (bindings .entry)))
+        ensures promised { λ r. ⌜ Performs (λ short. setSpace short space) (λ c b. spaceDone c b space) (now (self .entry)) (M·WordMemory .words (now (memory .entry))) (length (now (control .entry))) (length (now (bindings .entry)))
             (now (self .exit)) (M·WordMemory .words (now (memory .exit))) r ⌝ }
         ensures stacks { λ _. ⌜ (now (control .exit) ≡ now (control .entry)) × (now (bindings .exit) ≡ now (bindings .entry)) ⌝ }
         ensures lender { λ _. ⌜ M·WordMemory .lender (now (memory .exit)) ≡ M·WordMemory .lender (now (memory .entry)) ⌝ }

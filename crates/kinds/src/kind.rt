@@ -1,13 +1,13 @@
 // The kinds by name, and the classes of words.
 
-/// The kinds of object, each with the type code of its pointers.
+/// The kinds of object, in order of type code.
 #[derive(Clone, Copy, PartialEq, Eq, Debug)]
 pub enum Kind {
-    UVector = 3,
-    String = 4,
-    BVector = 7,
-    Symbol = 10,
-    List = 11,
+    UVector,
+    String,
+    BVector,
+    Symbol,
+    List,
 }
 
 /// What a word is to a cell that may take it.

@@ -47,9 +47,9 @@ module _ {A : Type 0} (c : Call A) (plain : (s : State) → Plain (c .refusals s
       go (Err e) z = ap (noted e) z
 
 -- a call that does a step and then remembers a foreign word keeps its promise
-pub promised : {A : Type 0} (c : Call A) → ((s : State) → Plain (c .refusals s)) → (m m′ : Machine) (r : Result A Refusal) (x : Machine × Result A Refusal) →
-    Answers c m (x .0) (x .1) → Stays m (x .0) (x .1) → Sticks m (x .1) → (m₁ : Machine) → (m₁, r) ≡ x → m′ ≡ notedBy r m₁ → Promised c m m′ r
-promised {A} c plain m m′ r x a b s m₁ e n =
+pub promised : {A : Type 0} (c : Call A) (f : Machine → Machine × Result A Refusal) → ((s : State) → Plain (c .refusals s)) → (m m′ : Machine) (r : Result A Refusal) →
+    Answers c m (f m .0) (f m .1) → Stays m (f m .0) (f m .1) → Sticks m (f m .1) → (m₁ : Machine) → (m₁, r) ≡ f m → m′ ≡ notedBy r m₁ → Promised c f m m′ r
+promised {A} c f plain m m′ r a b s m₁ e n =
     let P : Machine × Result A Refusal → Type 0 = λ y. Answers c m (y .0) (y .1) × Stays m (y .0) (y .1) × Sticks m (y .1) in
     let z : Answers c m m₁ r × Stays m m₁ r × Sticks m r = subst P (sym e) (a, b, s) in
-    rw n (record { answers = noted-answers c plain m m₁ r (z .0); keeps = noted-keeps c plain m m₁ r (z .1); sticks = z .2 })
+    rw n (record { does = (m₁, e, refl); answers = noted-answers c plain m m₁ r (z .0); keeps = noted-keeps c plain m m₁ r (z .1); sticks = z .2 })

@@ -172,6 +172,7 @@ module _ (control bindings n : ℕ) (text : List ℕ) (m m₁ : Machine) (r : Re
   text-promised h m′ e =
       let k = kept-by (m .foreign) (isSome (spaceAt n)) en (ltb textLimit (length text)) refl refl h in
       rw e (record {
+        does = (m₁, h, refl);
         answers = λ s d. rw (space-turned n) (answers-by (isSome (spaceAt n)) en (ltb textLimit (length text)) refl refl (ways (isSome (spaceAt n)) en (ltb textLimit (length text)) (none-by (m .foreign) (d .shows .1 .sound) h) refl) s d);
         within = noted-within m m₁ r (k .0);
         restored = noted-space m₁ r ∙ k .1;

@@ -140,6 +140,7 @@ faultNoted (Err f) m = noted (f .refusal) m
 
 -- What opening a text promises of the machine m that it found, the machine m′ that it left and its answer r.
 pub record TextPromised (control bindings n : ℕ) (text : List ℕ) (m m′ : Machine) (r : Result ℕ TextFault) : Type 0 where
+  pub does : (m₁ : Machine) × TextRuns control bindings n text m m₁ r × (m′ ≡ faultNoted r m₁)
   pub answers : (s : State) → Depicts m s → TextAnswers (short m control bindings) n text s m′ r
   pub within : Within m m′
   pub restored : m′ .space ≡ m .space

@@ -73,8 +73,10 @@ abbrev pub notedBy : {A : Type 0} → Result A Refusal → Machine → Machine
 notedBy (Ok a) m = m
 notedBy (Err e) m = noted e m
 
--- What every call promises of the machine m that it found, the machine m′ that it left and its answer r.
-pub record Promised {A : Type 0} (c : Call A) (m m′ : Machine) (r : Result A Refusal) : Type 0 where
+-- What every call promises of the machine m that it found, the machine m′ that it left and its answer r: whatever m was, it did the step
+-- f and remembered a foreign word; where m shows a state it answered as the call c does; it kept to the windows; and it repeats a 17.
+pub record Promised {A : Type 0} (c : Call A) (f : Machine → Machine × Result A Refusal) (m m′ : Machine) (r : Result A Refusal) : Type 0 where
+  pub does : (m₁ : Machine) × ((m₁, r) ≡ f m) × (m′ ≡ notedBy r m₁)
   pub answers : Answers c m m′ r
   pub keeps : Keeps m m′ r
   pub sticks : Sticks m r

@@ -17,6 +17,7 @@ use Rattle.graph.specs.Calls.{State, register, told, tell, outcome}
 use Rattle.layout.specs.Machine.{Machine}
 use Rattle.store.specs.Checks.{longEnough}
 use Rattle.promises.specs.Promise.{Depicts, Promised, short, Keeps, Within}
+use Rattle.access.specs.Access.{tellDone}
 use Rattle.opening.proofs.Texts.{enough-kept}
 use Rattle.sheet.specs.Sheet.{Still, allTold}
 use Rattle.graph.specs.Graph.{Value, plain, trap}
@@ -34,7 +35,7 @@ kept-enough : (m m′ : Machine) (q : Result Told Refusal) (t : Told) → q ≡ 
 kept-enough m m′ (Ok a) t e k = k
 kept-enough m m′ (Err x) t e k = let z : _≡_ {A = ℕ} 0 1 = cc in absurd (omega arith)
 
-pub tell-step : (m m′ : Machine) (r : ℕ) (q : Result Told Refusal) (s : State) → r < 16 → Promised (tell (short m 0 0) r) m m′ q → Still m s → (q ≡ Ok (told s (register s r))) × Still m′ s
+pub tell-step : (m m′ : Machine) (r : ℕ) (q : Result Told Refusal) (s : State) → r < 16 → Promised (tell (short m 0 0) r) (tellDone 0 0 r) m m′ q → Still m s → (q ≡ Ok (told s (register s r))) × Still m′ s
 tell-step m m′ r q s l p st =
     let a = p .answers s (st .0) in
     let ok : q ≡ Ok (told s (register s r)) = (a .0 ∙ outcome-told r (short m 0 0) s l (ap not (st .1))) in
