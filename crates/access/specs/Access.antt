@@ -30,6 +30,7 @@ abbrev pub putWord : ℕ → Machine → Option ℕ → Machine × Result (Unit 
 putWord to m None = (m, Err OutOfBounds)
 putWord to m (Some w) = (withRegister m to w, Ok tt)
 
+-- A literal is put into a register.
 unfoldable pub putDone : ℕ → ℕ → ℕ → Literal → Machine → Machine × Result (Unit {0}) Refusal
 putDone control bindings to v = admission control bindings (leb to 15) (λ m. putWord to m (wordOf v))
 
@@ -37,6 +38,7 @@ putDone control bindings to v = admission control bindings (leb to 15) (λ m. pu
 abbrev pub readFrom : ℕ → ℕ → Machine → Opened → Machine × Result (Unit {0}) Refusal
 readFrom to k m o = cond (leb (o .cells) k) (m, Err OutOfBounds) (after m (loaded (m .table) (m .words) o k) (λ w. (withRegister m to w, Ok tt)))
 
+-- A cell or entry of the object in a register is read into a register.
 unfoldable pub readDone : ℕ → ℕ → ℕ → ℕ → ℕ → Machine → Machine × Result (Unit {0}) Refusal
 readDone control bindings to from k =
     admission control bindings (leb to 15 && leb from 15) (λ m. after m (opened (m .table) (m .words) (registerAt m from)) (λ o. readFrom to k m o))
@@ -51,15 +53,18 @@ writeRefused t o k w =
 abbrev pub written : Machine → List ℕ × Result (Unit {0}) Refusal → Machine × Result (Unit {0}) Refusal
 written m (ws, r) = (withWords m ws, r)
 
+-- What a register holds is written into a cell or entry of the object in a register.
 unfoldable pub writeDone : ℕ → ℕ → ℕ → ℕ → ℕ → Machine → Machine × Result (Unit {0}) Refusal
 writeDone control bindings into k value =
     admission control bindings (leb into 15 && leb value 15)
     (λ m. after m (opened (m .table) (m .words) (registerAt m into))
     (λ o. after m (writeRefused (m .table) o k (registerAt m value)) (λ _. written m (saved o k (registerAt m value) (m .words)))))
 
+-- What is told of an opened object; both dynamic spaces are told as 0.
 abbrev pub toldOpened : Opened → Told
 toldOpened o = toldObject (code (o .kind)) (cond (ltb (o .space) 2) 0 (o .space)) (o .cells)
 
+-- What is told of a word, by the literal that it stands for, if any.
 abbrev pub toldAs : Table → List ℕ → ℕ → Option Literal → Result Told Refusal
 toldAs t ws w None = next (opened t ws w) (λ o. Ok (toldOpened o))
 toldAs t ws w (Some (Fixnum z)) = Ok (toldFixnum z)
@@ -70,9 +75,11 @@ toldAs t ws w (Some Null) = Ok toldNull
 unfoldable pub toldWord : Table → List ℕ → ℕ → Result Told Refusal
 toldWord t ws w = toldAs t ws w (literalOf w)
 
+-- What a register holds is told.
 unfoldable pub tellDone : ℕ → ℕ → ℕ → Machine → Machine × Result Told Refusal
 tellDone control bindings of = admission control bindings (leb of 15) (λ m. (m, toldWord (m .table) (m .words) (registerAt m of)))
 
+-- Two registers are compared, word by word.
 unfoldable pub sameDone : ℕ → ℕ → ℕ → ℕ → Machine → Machine × Result Bool Refusal
 sameDone control bindings left right = admission control bindings (leb left 15 && leb right 15) (λ m. (m, Ok (eqb (registerAt m left) (registerAt m right))))
 
@@ -80,6 +87,7 @@ sameDone control bindings left right = admission control bindings (leb left 15 &
 abbrev pub readOnlyLows : Table → List ℕ
 readOnlyLows t = low t 3 ∷ low t 7 ∷ low t 11 ∷ low t 15 ∷ low t 19 ∷ []
 
+-- The machine with other ends of frozen words.
 abbrev pub withFrozen : Machine → List ℕ → Machine
 withFrozen m fs = record {
   words = m .words;
@@ -90,6 +98,7 @@ withFrozen m fs = record {
   foreign = m .foreign;
 }
 
+-- All read-only words in use are frozen.
 unfoldable pub freezeDone : ℕ → ℕ → Machine → Machine × Result (Unit {0}) Refusal
 freezeDone control bindings = admission control bindings true (λ m. (withFrozen m (readOnlyLows (m .table)), Ok tt))
 
@@ -97,5 +106,6 @@ freezeDone control bindings = admission control bindings true (λ m. (withFrozen
 abbrev pub withSpace : Machine → ℕ → Machine
 withSpace m n = record { words = m .words; table = m .table; stacks = m .stacks; edits = m .edits; space = n; foreign = m .foreign }
 
+-- The allocation space is set, where there is such a space.
 unfoldable pub spaceDone : ℕ → ℕ → ℕ → Machine → Machine × Result (Unit {0}) Refusal
 spaceDone control bindings n = admission control bindings (isSome (spaceAt n)) (λ m. (withSpace m n, Ok tt))

@@ -25,6 +25,7 @@ use Rattle.objects.specs.Open.{next, fetched}
 abbrev pub cellPlace : Opened → ℕ → ℕ
 cellPlace o k = o .base + heads (o .kind) + k
 
+-- The place of the word that has entry k of an unboxed object.
 abbrev pub entryPlace : Opened → ℕ → ℕ
 entryPlace o k = o .base + heads (o .kind) + k / perWord (o .access % 5)
 
@@ -36,6 +37,7 @@ leadsOn t o w Null = true
 leadsOn t o w Unset = true
 leadsOn t o w (Pointer κ) = reaches t w && not (eqb (o .space) 3 && dynamicWord w)
 
+-- The word of a cell, by its class, where a call could have left it there.
 abbrev pub believedAs : Table → Opened → ℕ → ℕ → Option Class → Result ℕ Refusal
 believedAs t o k w None = Err (Foreign (Memory (cellPlace o k)))
 believedAs t o k w (Some c) =
@@ -51,6 +53,7 @@ loaded t ws o k =
     cond (boxed (o .kind)) (next (fetched ws (cellPlace o k)) (λ w. believed t o k w))
     (next (fetched ws (entryPlace o k)) (λ w. Ok (entryWord (o .kind) (entryOf w (o .access % 5) k))))
 
+-- Cell or entry k can take a word of this class.
 abbrev pub fitsAs : Opened → ℕ → ℕ → Option Class → Bool
 fitsAs o k w None = false
 fitsAs o k w (Some c) = takes (o .kind) k c && (boxed (o .kind) || ltb (entryNumber w) (2 ^ bitsOf (o .access % 5)))

@@ -39,6 +39,7 @@ abbrev pub judged : {A : Type 0} → List (Bool × Refusal) → A → Result A R
 judged [] a = Ok a
 judged (t ∷ ts) a = cond (t .0) (Err (t .1)) (judged ts a)
 
+-- The answer or the refusal of a call on a state.
 abbrev pub outcome : {A : Type 0} → Call A → State → Result A Refusal
 outcome c s = judged (c .refusals s) (c .answer s)
 
@@ -46,12 +47,15 @@ outcome c s = judged (c .refusals s) (c .answer s)
 abbrev pub register : State → ℕ → Value
 register s r = getD (s .graph .registers) r (plain trap)
 
+-- The objects of a state.
 abbrev pub objectsOf : State → List Object
 objectsOf s = s .graph .objects
 
+-- The state with another graph.
 abbrev pub withGraph : State → Graph → State
 withGraph s g = record { graph = g; used = s .used; room = s .room }
 
+-- A value refers to an object.
 abbrev pub isObject : Value → Bool
 isObject (plain x) = false
 isObject (ref i) = true
@@ -61,6 +65,7 @@ abbrev pub identity : State → Value → ℕ
 identity s (plain x) = length (s .graph .objects)
 identity s (ref i) = i
 
+-- The object that a value refers to.
 abbrev pub target : State → Value → Object
 target s v = object (s .graph) (identity s v)
 
@@ -69,6 +74,7 @@ abbrev pub isDynamic : List Object → Value → Bool
 isDynamic os (plain x) = false
 isDynamic os (ref i) = eqb (getD os i nothing .space) 0
 
+-- One of the values refers to a dynamic object.
 abbrev pub anyDynamic : List Object → List Value → Bool
 anyDynamic os [] = false
 anyDynamic os (v ∷ vs) = isDynamic os v || anyDynamic os vs
@@ -79,6 +85,7 @@ literalValue (Fixnum z) = plain (fixnum (dataOf z))
 literalValue (Character c) = plain (character c)
 literalValue Null = plain null
 
+-- Sets a register to a fixnum, a character or null.
 abbrev pub put : Bool → ℕ → Literal → Call (Unit {0})
 put short to v = record {
   refusals = λ s. (ltb 15 to, Unknown) ∷ (short, Short) ∷ (not (literalRange v), OutOfBounds) ∷ [];
@@ -119,10 +126,12 @@ making unknown short early o to = record {
   after = λ s. added s (o s) to;
 }
 
+-- Makes a list of what two registers hold.
 abbrev pub makeList : Bool → ℕ → ℕ → ℕ → Call ℕ
 makeList short to car cdr =
     making (ltb 15 to || (ltb 15 car || ltb 15 cdr)) short (λ s. []) (λ s. newObject s list 0 (register s car ∷ register s cdr ∷ [])) to
 
+-- Makes a symbol whose print name is the string in a register; its value and definition are unset, its other cells null.
 abbrev pub makeSymbol : Bool → ℕ → ℕ → Call ℕ
 makeSymbol short to name =
     making (ltb 15 to || ltb 15 name) short
@@ -134,21 +143,26 @@ makeSymbol short to name =
 abbrev pub maxCount : ℕ
 maxCount = 65534
 
+-- Makes a vector of so many entries, each what a register holds.
 abbrev pub makeVector : Bool → ℕ → ℕ → ℕ → Call ℕ
 makeVector short to count fill =
     making (ltb 15 to || ltb 15 fill) short (λ s. (ltb maxCount count, OutOfBounds) ∷ []) (λ s. newObject s bvector 0 (replicate count (register s fill))) to
 
+-- Makes a string of so many characters of code 0.
 abbrev pub makeString : Bool → ℕ → ℕ → Call ℕ
 makeString short to count =
     making (ltb 15 to) short (λ s. (ltb maxCount count, OutOfBounds) ∷ []) (λ s. newObject s string 3 (replicate count (plain (character 0)))) to
 
+-- Makes an unboxed vector of so many entries of an access type, all 0.
 abbrev pub makeWords : Bool → ℕ → ℕ → ℕ → Call ℕ
 makeWords short to count access =
     making (ltb 15 to || ltb 4 access) short (λ s. (ltb maxCount count, OutOfBounds) ∷ []) (λ s. newObject s uvector access (replicate count (plain (fixnum 0)))) to
 
+-- Cell k of the object that a value refers to.
 abbrev pub cell : State → Value → ℕ → Value
 cell s v k = getD (target s v .cells) k (plain trap)
 
+-- Reads a cell or entry into a register.
 abbrev pub read : Bool → ℕ → ℕ → ℕ → Call (Unit {0})
 read short to from at = record {
   refusals = λ s.
@@ -162,6 +176,7 @@ read short to from at = record {
 abbrev pub fits : List Object → Object → ℕ → Value → Bool
 fits os o k v = takes (o .kind) k (classOf os v) && (boxed (o .kind) || ltb (entryOf v) (2 ^ bitsOf (o .access)))
 
+-- Writes what a register holds into a cell or entry.
 abbrev pub write : Bool → ℕ → ℕ → ℕ → Call (Unit {0})
 write short into at value = record {
   refusals = λ s.
@@ -180,6 +195,7 @@ told s (plain null) = toldNull
 told s (plain trap) = toldNull
 told s (ref i) = toldObject (code (object (s .graph) i .kind)) (object (s .graph) i .space) (length (object (s .graph) i .cells))
 
+-- Tells what a register holds.
 abbrev pub tell : Bool → ℕ → Call Told
 tell short of = record {
   refusals = λ s. (ltb 15 of, Unknown) ∷ (short, Short) ∷ [];
@@ -195,6 +211,7 @@ sort (plain null) = 2
 sort (plain trap) = 3
 sort (ref i) = 4
 
+-- The number that tells values of one sort apart.
 abbrev pub number : Value → ℕ
 number (plain (fixnum d)) = d
 number (plain (character c)) = c
@@ -202,9 +219,11 @@ number (plain null) = 0
 number (plain trap) = 0
 number (ref i) = i
 
+-- Two values are one value.
 abbrev pub alike : Value → Value → Bool
 alike v w = eqb (sort v) (sort w) && eqb (number v) (number w)
 
+-- Whether two registers hold one value.
 abbrev pub same : Bool → ℕ → ℕ → Call Bool
 same short left right = record {
   refusals = λ s. (ltb 15 left || ltb 15 right, Unknown) ∷ (short, Short) ∷ [];
@@ -216,9 +235,11 @@ same short left right = record {
 abbrev pub isSpace : ℕ → Bool
 isSpace n = eqb n 0 || (eqb n 2 || eqb n 3)
 
+-- The graph with another allocation space.
 abbrev pub withSpace : Graph → ℕ → Graph
 withSpace g n = record { objects = g .objects; registers = g .registers; control = g .control; bindings = g .bindings; edits = g .edits; space = n }
 
+-- Sets the space that new objects go to.
 abbrev pub setSpace : Bool → ℕ → Call (Unit {0})
 setSpace short n = record {
   refusals = λ s. (not (isSpace n), Unknown) ∷ (short, Short) ∷ [];
@@ -230,9 +251,11 @@ setSpace short n = record {
 abbrev pub frozenObject : Object → Object
 frozenObject o = record { kind = o .kind; access = o .access; space = o .space; frozen = o .frozen || eqb (o .space) 3; cells = o .cells }
 
+-- The graph with every read-only object frozen.
 abbrev pub frozenAll : Graph → Graph
 frozenAll g = record { objects = map frozenObject (g .objects); registers = g .registers; control = g .control; bindings = g .bindings; edits = g .edits; space = g .space }
 
+-- Freezes the read-only objects that there are.
 abbrev pub freeze : Bool → Call (Unit {0})
 freeze short = record {
   refusals = λ s. (short, Short) ∷ [];

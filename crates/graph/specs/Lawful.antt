@@ -18,6 +18,7 @@ immediateClass (character c) = Character
 immediateClass null = Null
 immediateClass trap = Unset
 
+-- What a value is to a cell that may take it.
 abbrev pub classOf : List Object → Value → Class
 classOf os (plain x) = immediateClass x
 classOf os (ref i) = Pointer (getD os i nothing .kind)

@@ -11,19 +11,21 @@ use Rattle.words.specs.Words.{fixnumWord, characterWord, nullWord, trapWord, he
 use Rattle.words.specs.Packing.{bitsOf, packedWord, packedCount}
 use Rattle.graph.specs.Graph.{Immediate, fixnum, character, null, trap, Value, plain, ref, Kind, uvector, string, bvector, symbol, list, Object}
 
+-- The word of an immediate value.
 abbrev pub immediateWord : Immediate → ℕ
 immediateWord (fixnum d) = fixnumWord d
 immediateWord (character c) = characterWord c
 immediateWord null = nullWord
 immediateWord trap = trapWord
 
+-- An immediate value has a word: its number fits the word's field.
 abbrev pub Small : Immediate → Type 0
 Small (fixnum d) = d < 268435456
 Small (character c) = c < 256
 Small null = Unit {0}
 Small trap = Unit {0}
 
--- an entry of an unboxed object as a number
+-- An entry of an unboxed object as a number.
 abbrev pub entryOf : Value → ℕ
 entryOf (plain (fixnum d)) = d
 entryOf (plain (character c)) = c
@@ -31,28 +33,32 @@ entryOf (plain null) = 0
 entryOf (plain trap) = 0
 entryOf (ref i) = 0
 
+-- The entries of an unboxed object as numbers.
 abbrev pub entries : Object → List ℕ
 entries o = map entryOf (o .cells)
 
--- all words of an object
+-- All words of an object.
 abbrev pub size : Object → ℕ
 size o = heads (o .kind) + cond (boxed (o .kind)) (length (o .cells)) (packedCount (o .access) (length (o .cells)))
 
--- what word k of an object has to be: this very word, or one that means this value
+-- What word k of an object has to be: this very word, or one that means this value.
 pub data Want : Type 0 where
   exact : ℕ → Want
   value : Value → Want
 
+-- Word k of an object's head.
 abbrev pub headWord : Object → ℕ → ℕ
 headWord o k = cond (eqb k 0) (headerWord (size o)) (entriesWord (o .access) (length (o .cells)))
 
+-- What word k after the head of an object has to be.
 abbrev pub bodyWant : Object → ℕ → Want
 bodyWant o k = cond (boxed (o .kind)) (value (getD (o .cells) k (plain trap))) (exact (packedWord (o .access) (entries o) k))
 
+-- What word k of an object has to be.
 unfoldable pub want : Object → ℕ → Want
 want o k = cond (ltb k (heads (o .kind))) (exact (headWord o k)) (bodyWant o (k - heads (o .kind)))
 
--- how many cells a kind may have
+-- How many cells a kind may have.
 abbrev pub Counted : Kind → ℕ → Type 0
 Counted uvector n = n < 65535
 Counted string n = n < 65535
@@ -60,7 +66,7 @@ Counted bvector n = n < 65535
 Counted symbol n = n ≡ 6
 Counted list n = n ≡ 2
 
--- an entry of an unboxed object, as a value
+-- An entry of an unboxed object, as a value.
 abbrev pub entryValue : Kind → ℕ → Value
 entryValue uvector e = plain (fixnum e)
 entryValue string e = plain (character e)
@@ -68,7 +74,7 @@ entryValue bvector e = plain (fixnum e)
 entryValue symbol e = plain (fixnum e)
 entryValue list e = plain (fixnum e)
 
--- an object has the cells its kind asks for
+-- An object has the cells its kind asks for.
 pub record Shaped (o : Object) : Type 0 where
   pub thawed : o .space ≢ 3 → o .frozen ≡ false
   pub counted : Counted (o .kind) (length (o .cells))

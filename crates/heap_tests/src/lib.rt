@@ -107,4 +107,108 @@ mod tests {
         check(number(heap.read(&mut memory, &mut [], &mut [], 1, 0, 0)) == 17)?;
         check(number(heap.same(&mut memory, &mut [], &mut [], 0, 0)) == 17)
     }
+
+    const SIX: Windows = Windows { dynamic: 6, fixed: 0, read_only: 2 };
+
+    // What reading cell 0 of a list answers, and then a put, once the host has written `word` over the cell.
+    fn list_cell_becomes(word: u32) -> Result<(u32, u32), Fail> {
+        let mut words = [0u32; 14];
+        let mut memory = Words(&mut words);
+        let mut heap = Heap::new([NONE, NONE, NONE, NONE, SIX], &mut memory, &mut [], &mut [])?;
+        check(number(heap.list(&mut memory, &mut [], &mut [], 0, 1, 1)) == 0)?;
+        memory.write(4, word)?;
+        let read = number(heap.read(&mut memory, &mut [], &mut [], 1, 0, 0));
+        Ok((read, number(heap.put(&mut memory, &mut [], &mut [], 0, Literal::Null))))
+    }
+
+    #[test]
+    fn a_cell_that_means_nothing_is_foreign() -> Result<(), Fail> {
+        let (read, put) = list_cell_becomes(0x0200_0000)?;
+        check(read == 17 && put == 17)?;
+        let (read, put) = list_cell_becomes(0x0100_0100)?;
+        check(read == 17 && put == 17)
+    }
+
+    #[test]
+    fn an_unset_list_cell_is_foreign() -> Result<(), Fail> {
+        let (read, put) = list_cell_becomes(0)?;
+        check(read == 17 && put == 17)
+    }
+
+    #[test]
+    fn a_pointer_out_of_the_words_in_use_is_foreign() -> Result<(), Fail> {
+        let (read, put) = list_cell_becomes(0xB000_0008)?;
+        check(read == 17 && put == 17)?;
+        let (read, put) = list_cell_becomes(0xB400_0000)?;
+        check(read == 17 && put == 17)?;
+        let (read, put) = list_cell_becomes(0xB000_0011)?;
+        check(read == 17 && put == 17)
+    }
+
+    #[test]
+    fn a_list_cell_that_a_call_could_have_left_is_read() -> Result<(), Fail> {
+        let (read, put) = list_cell_becomes(0xB000_0010)?;
+        check(read == 0 && put == 0)?;
+        let (read, put) = list_cell_becomes(0x1FFF_FFFF)?;
+        check(read == 0 && put == 0)
+    }
+
+    #[test]
+    fn a_dynamic_pointer_in_a_read_only_list_is_foreign() -> Result<(), Fail> {
+        let mut words = [0u32; 14];
+        let mut memory = Words(&mut words);
+        let mut heap = Heap::new([NONE, NONE, NONE, NONE, SIX], &mut memory, &mut [], &mut [])?;
+        check(number(heap.list(&mut memory, &mut [], &mut [], 0, 1, 1)) == 0)?;
+        heap.set_space(&mut memory, &mut [], &mut [], 3)?;
+        check(number(heap.list(&mut memory, &mut [], &mut [], 2, 0, 1)) == 7)?;
+        check(number(heap.list(&mut memory, &mut [], &mut [], 2, 1, 1)) == 0)?;
+        memory.write(12, 0xB000_0010)?;
+        check(number(heap.read(&mut memory, &mut [], &mut [], 3, 2, 0)) == 17)?;
+        check(number(heap.freeze(&mut memory, &mut [], &mut [])) == 17)
+    }
+
+    #[test]
+    fn a_frozen_list_takes_no_writes_and_a_later_one_does() -> Result<(), Fail> {
+        let mut words = [0u32; 16];
+        let mut memory = Words(&mut words);
+        let windows = Windows { dynamic: 6, fixed: 0, read_only: 4 };
+        let mut heap = Heap::new([NONE, NONE, NONE, NONE, windows], &mut memory, &mut [], &mut [])?;
+        heap.set_space(&mut memory, &mut [], &mut [], 3)?;
+        check(number(heap.list(&mut memory, &mut [], &mut [], 0, 1, 1)) == 0)?;
+        heap.freeze(&mut memory, &mut [], &mut [])?;
+        check(number(heap.list(&mut memory, &mut [], &mut [], 2, 1, 1)) == 0)?;
+        check(number(heap.write(&mut memory, &mut [], &mut [], 0, 0, 1)) == 6)?;
+        check(number(heap.write(&mut memory, &mut [], &mut [], 2, 0, 1)) == 0)
+    }
+
+    // A heap with a string of two characters in register 0, and a symbol of that name in register 1.
+    fn named<M: WordMemory>(memory: &mut M) -> Result<Heap, Fail> {
+        let strings = Windows { dynamic: 8, fixed: 0, read_only: 0 };
+        let symbols = Windows { dynamic: 6, fixed: 0, read_only: 0 };
+        let mut heap = Heap::new([NONE, strings, NONE, symbols, NONE], memory, &mut [], &mut [])?;
+        check(number(heap.string(memory, &mut [], &mut [], 0, 2)) == 0)?;
+        check(number(heap.symbol(memory, &mut [], &mut [], 1, 0)) == 0)?;
+        Ok(heap)
+    }
+
+    #[test]
+    fn a_print_name_that_is_no_string_is_foreign() -> Result<(), Fail> {
+        let mut words = [0u32; 28];
+        let mut memory = Words(&mut words);
+        let mut heap = named(&mut memory)?;
+        check(number(heap.read(&mut memory, &mut [], &mut [], 2, 1, 0)) == 4)?;
+        check(number(heap.read(&mut memory, &mut [], &mut [], 2, 1, 3)) == 0)?;
+        memory.write(19, 0x1000_0007)?;
+        check(number(heap.read(&mut memory, &mut [], &mut [], 2, 1, 3)) == 17)
+    }
+
+    #[test]
+    fn a_string_of_another_access_type_is_foreign() -> Result<(), Fail> {
+        let mut words = [0u32; 28];
+        let mut memory = Words(&mut words);
+        let mut heap = named(&mut memory)?;
+        memory.write(6, 0x2000_0002)?;
+        check(number(heap.tell(&mut memory, &mut [], &mut [], 0)) == 17)?;
+        check(number(heap.tell(&mut memory, &mut [], &mut [], 1)) == 17)
+    }
 }

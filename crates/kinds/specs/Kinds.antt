@@ -27,6 +27,7 @@ kindOf c = cond (eqb c 3) (Some UVector) (cond (eqb c 4) (Some String) (cond (eq
 abbrev pub kinds : ℕ
 kinds = 5
 
+-- Its place among the kinds, in order of type code.
 abbrev pub index : Kind → ℕ
 index UVector = 0
 index String = 1
@@ -78,6 +79,7 @@ isUnset Null = false
 isUnset Unset = true
 isUnset (Pointer κ) = false
 
+-- The class of fixnums.
 abbrev pub isFixnum : Class → Bool
 isFixnum Fixnum = true
 isFixnum Character = false
@@ -85,6 +87,7 @@ isFixnum Null = false
 isFixnum Unset = false
 isFixnum (Pointer κ) = false
 
+-- The class of characters.
 abbrev pub isCharacter : Class → Bool
 isCharacter Fixnum = false
 isCharacter Character = true
@@ -92,6 +95,7 @@ isCharacter Null = false
 isCharacter Unset = false
 isCharacter (Pointer κ) = false
 
+-- The class of null.
 abbrev pub isNull : Class → Bool
 isNull Fixnum = false
 isNull Character = false
@@ -99,6 +103,7 @@ isNull Null = true
 isNull Unset = false
 isNull (Pointer κ) = false
 
+-- The class of pointers to objects of the kind μ.
 abbrev pub isA : Kind → Class → Bool
 isA μ Fixnum = false
 isA μ Character = false
@@ -143,6 +148,7 @@ abbrev pub pointerClass : Bool → Option Kind → Option Class
 pointerClass a None = None
 pointerClass a (Some κ) = cond a (Some (Pointer κ)) None
 
+-- The class of a word; none of a word that means nothing.
 abbrev pub wordClass : ℕ → Option Class
 wordClass w =
     cond (eqb (typeOf w) 1) (Some Fixnum)

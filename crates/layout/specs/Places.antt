@@ -11,51 +11,58 @@ use Rattle.graph.specs.Graph.{Immediate, Value, plain, ref, Kind}
 use Rattle.graph.specs.Shape.{code, index, immediateWord, Small, Want, exact, value}
 use Rattle.layout.specs.Machine.{Table, windows, window, start, room, low, high, dirty, oldSpace, nowSpace}
 
--- whose word an address is: word k of object i where it is now, or where it was at the flip
+-- Whose word an address is: word k of object i where it is now, or where it was at the flip.
 pub data Tag : Type 0 where
   gap : Tag
   here : ℕ → ℕ → Tag
   past : ℕ → ℕ → Tag
 
+-- Where the objects are: a witness that no code holds, of functions of the object's number.
 pub record Places : Type 0 where
-  -- the objects ever made, and what never changes of each
+  -- The objects ever made, and what never changes of each.
   pub count : ℕ
   pub kind : ℕ → Kind
   pub space : ℕ → ℕ
   pub size : ℕ → ℕ
-  -- the dynamic space that is new
+  -- The dynamic space that is new.
   pub now : ℕ
-  -- in new, static or read-only space, and where in its window
+  -- In new, static or read-only space, and where in its window.
   pub placed : ℕ → Bool
   pub new : ℕ → ℕ
-  -- in use at the flip, and where in its window it was
+  -- In use at the flip, and where in its window it was.
   pub live : ℕ → Bool
   pub old : ℕ → ℕ
   pub tag : ℕ → Tag
 
--- the space code of an object's place
+-- The space code of an object's place.
 abbrev pub spaceNow : Places → ℕ → ℕ
 spaceNow p i = nowSpace (p .now) (p .space i)
 
+-- The window in which an object lies now.
 abbrev pub newWindow : Places → ℕ → ℕ
 newWindow p i = window (p .kind i) (spaceNow p i)
 
+-- The window in which an object lay at the flip.
 abbrev pub oldWindow : Places → ℕ → ℕ
 oldWindow p i = window (p .kind i) (oldSpace (p .now))
 
+-- The pointer word to an object where it is now.
 abbrev pub newWord : Places → ℕ → ℕ
 newWord p i = pointerWord (code (p .kind i)) (spaceNow p i) (p .new i)
 
+-- The pointer word to an object where it was at the flip.
 abbrev pub oldWord : Places → ℕ → ℕ
 oldWord p i = pointerWord (code (p .kind i)) (oldSpace (p .now)) (p .old i)
 
+-- The place in memory of an object's first word now.
 abbrev pub newAddress : Table → Places → ℕ → ℕ
 newAddress t p i = start t (newWindow p i) + p .new i
 
+-- The place in memory of an object's first word at the flip.
 abbrev pub oldAddress : Table → Places → ℕ → ℕ
 oldAddress t p i = start t (oldWindow p i) + p .old i
 
--- the word w means the value v; d says whether it may be an old pointer, which means what was there at the flip, wherever it is now
+-- The word w means the value v; d says whether it may be an old pointer, which means what was there at the flip, wherever it is now.
 abbrev pub Means : Places → Bool → ℕ → Value → Type 0
 Means p d w (plain x) = (w ≡ immediateWord x) × Small x
 Means p d w (ref i) = ((p .placed i ≡ true) × (w ≡ newWord p i)) ⊎ ((d ≡ true) × (p .live i ≡ true) × (w ≡ oldWord p i))
@@ -86,11 +93,11 @@ pub record Map (p : Places) (t : Table) : Type 0 where
 unfoldable pub upd : {X : Type 0} → (ℕ → X) → ℕ → X → ℕ → X
 upd f i x j = cond (eqb j i) x (f j)
 
--- the n words from a on are object i's
+-- The n words from a on are object i's.
 unfoldable pub tagging : (ℕ → Tag) → ℕ → ℕ → ℕ → ℕ → Tag
 tagging f a n i x = cond (leb a x && ltb x (a + n)) (here i (x - a)) (f x)
 
--- object i, of kind κ and space s, is placed at `off` of its window, and has n words there; c objects are known
+-- Object i, of kind κ and space s, is placed at `off` of its window, and has n words there; c objects are known.
 abbrev pub placing : Places → Table → ℕ → Kind → ℕ → ℕ → ℕ → ℕ → Places
 placing p t i κ s n off c = record {
   count = c;
@@ -105,7 +112,7 @@ placing p t i κ s n off c = record {
   tag = tagging (p .tag) (start t (window κ (nowSpace (p .now) s)) + off) n i;
 }
 
--- there is room for it, and the cursors move past it
+-- There is room for it, and the cursors move past it.
 pub record Room (p : Places) (t : Table) (ls hs : List ℕ) (i : ℕ) (κ : Kind) (s n off c : ℕ) : Type 0 where
   pub unplaced : p .placed i ≡ false
   pub grown : ((i < p .count) × (c ≡ p .count)) ⊎ ((i ≡ p .count) × (c ≡ suc (p .count)))
@@ -120,7 +127,7 @@ pub record Room (p : Places) (t : Table) (ls hs : List ℕ) (i : ℕ) (κ : Kind
   pub fills-low : s ≢ 0 → off + n ≤ getD ls (window κ (nowSpace (p .now) s)) 0
   pub lows-new : (l x : ℕ) → low t l ≤ x → x < getD ls l 0 → (l ≡ window κ (nowSpace (p .now) s)) × (off ≤ x) × (x < off + n)
 
--- and the words in use grow by it
+-- And the words in use grow by it.
 pub record Paid (p : Places) (t : Table) (ls hs : List ℕ) (i : ℕ) (κ : Kind) (s n : ℕ) : Type 0 where
   pub copies-more : (μ : Kind) → getD ls (window μ (p .now)) 0 ≡ low t (window μ (p .now)) + cond (p .live i && eqb (index κ) (index μ)) n 0
   pub makes-more : (μ : Kind) → room t (window μ (p .now)) - getD hs (window μ (p .now)) 0 ≡ (room t (window μ (p .now)) - high t (window μ (p .now))) + cond ((not (p .live i) && eqb s 0) && eqb (index κ) (index μ)) n 0

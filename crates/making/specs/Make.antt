@@ -32,11 +32,13 @@ unfoldable pub claimed : Kind → ℕ → ℕ → ℕ → Table → Table
 claimed κ s x n t =
     withCursors t (cond (eqb s 0) (t .lows) (set (t .lows) (target t κ s) (x + n))) (cond (eqb s 0) (set (t .highs) (target t κ s) x) (t .highs)) (t .tos)
 
+-- A new object at x of its window, by what writing its words left.
 abbrev pub placed : Kind → ℕ → List ℕ → ℕ → ℕ → Machine → List ℕ × Result (Unit {0}) Refusal → Machine × Result ℕ Refusal
 placed κ s xs to x m (ws, Ok u) =
     (withRegister (withHeap m ws (claimed κ s x (length xs) (m .table))) to (pointerWord (code κ % 16) (nowSpace (m .table .now) s % 4) (x % 16777216)), Ok 0)
 placed κ s xs to x m (ws, Err e) = (m, Err e)
 
+-- A new object, by the place that was found for it.
 abbrev pub madeAt : Kind → ℕ → List ℕ → ℕ → Machine → Result ℕ Refusal → Machine × Result ℕ Refusal
 madeAt κ s xs to m (Ok x) = placed κ s xs to x m (emplaced (start (m .table) (target (m .table) κ s) + x) xs (m .words))
 madeAt κ s xs to m (Err e) = (m, Err e)

@@ -25,6 +25,7 @@ use Rattle.making.specs.Make.{made}
 abbrev pub refused : {B : Type 0} → Machine → Refusal → Machine × Result B Refusal
 refused m e = (m, Err e)
 
+-- A list is made of what two registers hold.
 unfoldable pub listMade : ℕ → ℕ → ℕ → ℕ → ℕ → Machine → Machine × Result ℕ Refusal
 listMade control bindings to car cdr =
     admission control bindings (leb to 15 && (leb car 15 && leb cdr 15))
@@ -40,6 +41,7 @@ isString (Some c) = isA string c
 unfoldable pub stringWord : ℕ → Bool
 stringWord w = isString (wordClass w)
 
+-- A symbol is made whose print name is the string in a register.
 unfoldable pub symbolMade : ℕ → ℕ → ℕ → ℕ → Machine → Machine × Result ℕ Refusal
 symbolMade control bindings to name =
     admission control bindings (leb to 15 && leb name 15)
@@ -47,6 +49,7 @@ symbolMade control bindings to name =
     (cond (eqb (m .space) 3 && dynamicWord (registerAt m name)) (refused m DynamicInReadOnly)
     (made symbol (m .space) (trapWord ∷ trapWord ∷ nullWord ∷ registerAt m name ∷ nullWord ∷ nullWord ∷ []) to m)) (refused m WrongKind))
 
+-- A vector is made of so many entries, each what a register holds.
 unfoldable pub vectorMade : ℕ → ℕ → ℕ → ℕ → ℕ → Machine → Machine × Result ℕ Refusal
 vectorMade control bindings to count fill =
     admission control bindings (leb to 15 && leb fill 15)
@@ -61,8 +64,10 @@ packedMade κ access count to m =
     (made κ (m .space)
     ((headerWord ((packedCount (access % 5) count + 2) % 16777216) ∷ entriesWord (access % 16) (count % 268435456) ∷ []) ++ replicate (packedCount (access % 5) count) 0) to m)
 
+-- A string is made of so many characters of code 0.
 unfoldable pub stringMade : ℕ → ℕ → ℕ → ℕ → Machine → Machine × Result ℕ Refusal
 stringMade control bindings to count = admission control bindings (leb to 15) (packedMade string 3 count to)
 
+-- An unboxed vector is made of so many entries of an access type.
 unfoldable pub wordsMade : ℕ → ℕ → ℕ → ℕ → ℕ → Machine → Machine × Result ℕ Refusal
 wordsMade control bindings to count access = admission control bindings (leb to 15 && leb access 4) (packedMade uvector access count to)

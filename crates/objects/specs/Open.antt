@@ -33,12 +33,15 @@ orElse None e = Err e
 abbrev pub fetched : List ℕ → ℕ → Result ℕ Refusal
 fetched ws a = cond (ltb a (length ws)) (Ok (getD ws a 0)) (Err Short)
 
+-- A word is a header, where the kind has one.
 abbrev pub headed : Kind → ℕ → Bool
 headed κ w = eqb (heads κ) 0 || eqb (w / 16777216) 16
 
+-- The cells of a boxed object of n words.
 abbrev pub boxedCells : Kind → ℕ → Option ℕ
 boxedCells κ n = cond (ltb n (heads κ) || ltb 65534 (n - heads κ)) None (Some (n - heads κ))
 
+-- The entries of an unboxed object of n words whose second word is w.
 abbrev pub packedCells : Kind → ℕ → ℕ → Option ℕ
 packedCells κ n w =
     cond (not (accessible κ (accessOf w)) || (ltb 65534 (countOf w) || not (eqb n (heads κ + packedCount (accessOf w % 5) (countOf w))))) None (Some (countOf w))
@@ -65,6 +68,7 @@ extent t ws κ w =
 abbrev pub openedWith : Table → ℕ → Kind → ℕ × ℕ → Opened
 openedWith t w κ c = record { kind = κ; space = spaceOf w; offset = pointerOf w; base = located t κ w; cells = c .0; access = c .1 }
 
+-- The object that a word leads to, by the kind that its type code names.
 abbrev pub openedAs : Table → List ℕ → ℕ → Option Kind → Result Opened Refusal
 openedAs t ws w None = Err WrongKind
 openedAs t ws w (Some κ) = next (extent t ws κ w) (λ n. next (measured ws κ (located t κ w) n) (λ c. Ok (openedWith t w κ c)))

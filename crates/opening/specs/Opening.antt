@@ -116,6 +116,7 @@ TextRunsAs control bindings n text m m′ r (Ok u) =
     When (ltb textLimit (length text)) ((m′ ≡ m) × (r ≡ faultAt 0 TooLong))
     ((m₁ : Machine) × Runs control bindings (withSpace m n) 1 0 (linesOf text) m₁ r × (m′ ≡ withSpace m₁ (m .space)))
 
+-- What opening a text does to a machine.
 abbrev pub TextRuns : ℕ → ℕ → ℕ → List ℕ → Machine → Machine → Result ℕ TextFault → Type 0
 TextRuns control bindings n text m m′ r =
     TextRunsAs control bindings n text m m′ r (admitted (m .foreign) (isSome (spaceAt n)) (longEnough (m .table) (length (m .words)) control bindings))

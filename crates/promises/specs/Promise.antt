@@ -23,6 +23,7 @@ use Rattle.store.specs.Checks.{longEnough}
 abbrev pub roomIn : Table → Kind → ℕ → ℕ
 roomIn t κ e = room t (window κ (nowSpace (t .now) e))
 
+-- The words in use of a kind's window.
 abbrev pub usedIn : Table → Kind → ℕ → ℕ
 usedIn t κ e = low t (window κ (nowSpace (t .now) e)) + (roomIn t κ e - high t (window κ (nowSpace (t .now) e)))
 
@@ -56,6 +57,7 @@ abbrev pub remembered : Option Place → Option Place → Option Place
 remembered (Some p) q = Some p
 remembered None q = q
 
+-- The machine, with the foreign word remembered that a refusal names.
 abbrev pub noted : Refusal → Machine → Machine
 noted e m = record { words = m .words; table = m .table; stacks = m .stacks; edits = m .edits; space = m .space; foreign = remembered (placeOf e) (m .foreign) }
 

@@ -37,6 +37,7 @@ sheetState = inSpace (emptyState sheetWindows) 0
 abbrev pub allTold : State → List Told
 allTold s = map (told s) (s .graph .registers)
 
+-- What is told of the registers after an accepted text, or its fault.
 abbrev pub shownAs : State → Result ℕ TextFault → Result (List Told) TextFault
 shownAs s (Ok k) = Ok (allTold s)
 shownAs s (Err f) = Err f

@@ -26,6 +26,7 @@ abbrev pub admittedAs : Bool → Bool → Option Place → Result (Unit {0}) Ref
 admittedAs known enough (Some p) = Err (Foreign p)
 admittedAs known enough None = cond known (cond enough (Ok tt) (Err Short)) (Err Unknown)
 
+-- What every call asks first, and refuses with 17, 1 or 15.
 unfoldable pub admitted : Option Place → Bool → Bool → Result (Unit {0}) Refusal
 admitted foreign known enough = admittedAs known enough foreign
 
@@ -42,5 +43,6 @@ abbrev pub reachesAs : Table → ℕ → Option Kind → Bool
 reachesAs t w None = false
 reachesAs t w (Some κ) = not (eqb (spaceOf w) (oldSpace (t .now))) && inUse t (window κ (spaceOf w)) (pointerOf w) (least κ)
 
+-- A word points to words in use, outside the dynamic space that is not new.
 unfoldable pub reaches : Table → ℕ → Bool
 reaches t w = reachesAs t w (kindOf (typeOf w))

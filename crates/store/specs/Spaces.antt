@@ -13,5 +13,6 @@ codeOf Dynamic = 0
 codeOf Static = 2
 codeOf ReadOnly = 3
 
+-- The space that has this number.
 abbrev pub spaceAt : ℕ → Option Space
 spaceAt n = cond (eqb n 0) (Some Dynamic) (cond (eqb n 2) (Some Static) (cond (eqb n 3) (Some ReadOnly) None))
