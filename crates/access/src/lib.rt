@@ -1,4 +1,6 @@
 // The calls that read and write registers and cells.
+#![tactic(auto)]
+
 ghost use Rattle.std.specs.Prelude.{◌≡◌, ℕ, Bool, length};
 ghost use Rattle.store.specs.View.{table_of, view};
 ghost use Rattle.access.specs.Access.{put_done, read_done, write_refused, write_done, told_word, tell_done, same_done, read_only_lows, freeze_done};

@@ -1,4 +1,6 @@
 // The cells and entries of opened objects.
+#![tactic(auto)]
+
 ghost use Rattle.std.specs.Prelude.{◌≡◌, ℕ, Bool};
 ghost use Rattle.store.specs.View.{table_of};
 ghost use Rattle.cells.specs.Cells.{cell_place, entry_place, believed, loaded, fits_cell, frozen_cell, saved};

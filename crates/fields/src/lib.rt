@@ -1,4 +1,5 @@
 // The fields of a line: `key=value` one after another, each a part of the caller's text.
+#![tactic(auto)]
 
 ghost use Rattle.std.specs.Prelude.{◌≡◌, ℕ, List, [], ◌∷◌, ◌++◌, decimal, MatchResult, ◌≢◌};
 ghost use Rattle.lines.specs.Lines.{Free, newline};

@@ -1,4 +1,6 @@
 // The worked figures of the formats, together as one promise.
+#![tactic(auto)]
+
 ghost use Rattle.figures.specs.Figures.{Figures};
 
 /// The worked figures hold of the formats.

@@ -1,4 +1,6 @@
 // The making of a store: its windows laid out one after another, cleared, with nothing in use.
+#![tactic(auto)]
+
 ghost use Rattle.std.specs.Prelude.{◌≡◌, ℕ, ◌≤◌, true, List, length, IfOk};
 ghost use Rattle.std.specs.List.{AllByRecursion as All};
 ghost use Rattle.layout.specs.Fresh.{starts_from, fresh_machine};

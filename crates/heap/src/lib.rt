@@ -1,4 +1,6 @@
 // The heap and its calls.
+#![tactic(auto)]
+
 ghost use Rattle.std.specs.Prelude.{◌≡◌, ℕ, List, length, IfOk};
 ghost use Rattle.graph.specs.Calls.{put as put_call, read as read_call, write as write_call, tell as tell_call, same as same_call, set_space, freeze as freeze_call};
 ghost use Rattle.graph.specs.Calls.{make_list, make_symbol, make_vector, make_string, make_words};

@@ -1,4 +1,6 @@
 // Worked figures of the calls, as a shop would meet them.
+#![tactic(auto)]
+
 mod refusals;
 
 #[cfg(test)]

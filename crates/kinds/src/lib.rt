@@ -1,4 +1,6 @@
 // The kinds of object: what each contributes, and the one place where they are listed.
+#![tactic(auto)]
+
 mod class;
 mod kind;
 mod list;

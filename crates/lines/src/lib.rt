@@ -1,4 +1,5 @@
 // The lines of a text, read from the caller's own bytes.
+#![tactic(auto)]
 
 mod reader;
 

@@ -1,4 +1,5 @@
 // Registers and refused texts as they are printed.
+#![tactic(auto)]
 
 #[cfg(test)]
 mod tests {

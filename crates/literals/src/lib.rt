@@ -1,4 +1,5 @@
 // The values of a part text: a fixnum, a character code or null.
+#![tactic(auto)]
 
 ghost use Rattle.std.specs.Prelude.{[], ◌∷◌, decimal};
 ghost use Rattle.lines.specs.Lines.{newline};

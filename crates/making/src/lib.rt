@@ -1,4 +1,6 @@
 // New objects: their words written, and their window's cursor moved past them.
+#![tactic(auto)]
+
 ghost use Rattle.std.specs.Prelude.{◌≡◌, ℕ, ◌+◌, ◌^◌, ◌<◌, ◌≤◌, Bool, ◌++◌, length, replicate, Ok, nat_le};
 ghost use Rattle.store.specs.Spaces.{code_of};
 ghost use Rattle.store.specs.View.{table_of, view};

@@ -1,4 +1,6 @@
 // Memories of 32-bit words: the trait, two of them over lent slices, and blocks of words.
+#![tactic(auto)]
+
 ghost use Rattle.std.specs.Prelude.{◌≡◌, ℕ, List, length};
 ghost use Rattle.std.specs.Borrow.{GName};
 ghost use Rattle.memory.specs.Access.{Reads, Writes};

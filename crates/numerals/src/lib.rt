@@ -1,4 +1,5 @@
 // Numbers as a part text spells them.
+#![tactic(auto)]
 
 ghost use Rattle.std.specs.Prelude.{◌≡◌, ℕ, ◌<◌, decimal};
 ghost use Rattle.std.specs.Fmt.{signed_decimal};

@@ -1,4 +1,6 @@
 // Objects in memory: opened by a word, their cells read and written.
+#![tactic(auto)]
+
 ghost use Rattle.std.specs.Prelude.{◌≡◌, ℕ, ◌^◌, ◌<◌};
 ghost use Rattle.store.specs.View.{table_of};
 ghost use Rattle.objects.specs.Open.{headed, boxed_cells, packed_cells, measured, located, extent, opened};

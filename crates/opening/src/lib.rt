@@ -1,4 +1,6 @@
 // A part text run on a store, line by line.
+#![tactic(auto)]
+
 ghost use Rattle.std.specs.Prelude.{◌≡◌, ℕ, length};
 ghost use Rattle.store.specs.Spaces.{code_of};
 ghost use Rattle.store.specs.View.{view};

@@ -1,4 +1,5 @@
 // The operations of a part text, and their names.
+#![tactic(auto)]
 
 ghost use Rattle.std.specs.Prelude.{◌≡◌, Decides};
 ghost use Rattle.numerals.specs.Numbers.{Parses};

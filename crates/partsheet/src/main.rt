@@ -1,4 +1,6 @@
 // Opens a part text from standard input and prints its registers.
+#![tactic(auto)]
+
 use sheet::sheet_of;
 use std::io::Read;
 

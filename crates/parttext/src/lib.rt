@@ -1,4 +1,5 @@
 // The lines of a part text, each read as the call that it spells.
+#![tactic(auto)]
 
 ghost use Rattle.std.specs.Prelude.{◌≡◌, ℕ, MatchResult};
 ghost use Rattle.numerals.specs.Numbers.{Parses};

@@ -1,4 +1,5 @@
 // Part texts that a shop could write, and texts that are refused.
+#![tactic(auto)]
 
 #[cfg(test)]
 mod tests {

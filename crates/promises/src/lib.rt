@@ -1,1 +1,2 @@
 // What calls promise: definitions only.
+#![tactic(auto)]

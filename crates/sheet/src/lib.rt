@@ -1,4 +1,6 @@
 // A part text opened on a heap of its own, and what its registers then hold.
+#![tactic(auto)]
+
 ghost use Rattle.std.specs.Prelude.{◌≡◌, ℕ, ◌<◌, length, IfOk, string_bytes, MatchResult};
 ghost use Rattle.graph.specs.Calls.{State, told, register as register_of};
 ghost use Rattle.heap.specs.View.{machine};

@@ -1,4 +1,6 @@
 // The two stacks that a caller lends: what an entry is, and how many there may be.
+#![tactic(auto)]
+
 ghost use Rattle.std.specs.Prelude.{◌≡◌, length};
 ghost use Rattle.stacks.specs.Limits.{stacks_fit};
 

@@ -1,4 +1,6 @@
 // The store: its windows and registers, and what every call asks of them first.
+#![tactic(auto)]
+
 ghost use Rattle.std.specs.Prelude.{◌≡◌, ℕ, ◌+◌, ◌*◌, Bool, true, length, OnOk};
 ghost use Rattle.layout.specs.Machine.{now_space, window as window_of};
 ghost use Rattle.store.specs.Spaces.{code_of};

@@ -1,4 +1,6 @@
 // The 32-bit formats: the fields of a word, and the words that are made of them.
+#![tactic(auto)]
+
 ghost use Rattle.std.specs.Prelude.{◌≡◌, ℕ, ◌%◌};
 ghost use Rattle.words.specs.Figures.{Figures};
 ghost use Rattle.words.specs.Words.{type_of, subtype_of, space_of, pointer_of, aligned, pointer_word, forward_word};

@@ -4,10 +4,10 @@ use Rattle.std.proofs.lemmas.Nat.{one_shl}
 use Rattle.words.proofs.Packing.{bits_inside}
 use Rattle.words.proofs.entries.entry_range.Goals as goal
 
-pub overflow-shl-result : goal.overflow-shl-result
-overflow-shl-result c = omega (arith, bits_inside (c.args.access % 5) (omega arith))
+pub overflow_shl-result : goal.overflow_shl-result
+overflow_shl-result c = omega (arith, bits_inside (c.args.access % 5) (omega arith))
 
 pub returns : goal.returns
 returns c =
-    let l : c.entry-bits.result < 32 = omega (arith, bits_inside (c.args.access % 5) (omega arith)) in
-    one_shl c.entry-bits.result 32 l ∙ ap (λ n. 2 ^ n) c.entry-bits.ensures
+    let l : c.entry_bits.result < 32 = omega (arith, bits_inside (c.args.access % 5) (omega arith)) in
+    one_shl c.entry_bits.result 32 l ∙ ap (λ n. 2 ^ n) c.entry_bits.ensures
