@@ -20,12 +20,12 @@ returns-then-text-eq48 c = λ x e h. (numeral-from-decimal _ x e h).plain (omega
 pub returns-then-b-lt48 : goal.returns-then-b-lt48
 returns-then-b-lt48 c = λ x e h. let m = (numeral-from-decimal _ x e h).digits c.loop-b.b-index c.loop-b-test.true in omega arith
 
-pub overflow-mul-n : goal.overflow-mul-n
-overflow-mul-n c =
+pub overflow_mul-n : goal.overflow_mul-n
+overflow_mul-n c =
     let b : c.loop-b.n < 100000000 = room c.loop-b.b-index c.loop-b.n (omega arith) c.loop-b.invariant.1 in search rules
 
-pub overflow-add-n : goal.overflow-add-n
-overflow-add-n c =
+pub overflow_add-n : goal.overflow_add-n
+overflow_add-n c =
     let b : c.loop-b.n < 100000000 = room c.loop-b.b-index c.loop-b.n (omega arith) c.loop-b.invariant.1 in search rules
 
 pub loop-b-preserved : goal.loop-b-preserved

@@ -8,21 +8,21 @@ use Rattle.numerals.proofs.signed_number.Goals as goal
 pub returns-then-text-eq0 : goal.returns-then-text-eq0
 returns-then-text-eq0 c = λ x e h. omega (arith, signed-some _ x e h)
 
-pub returns-in-err-n : goal.returns-in-err-n
-returns-in-err-n c =
-    let p = err_from_is_err_and c.from-residual.result c.from-residual.ensures.1 in
-    rw p.1 (λ x e h. let m = signed-minus c.args.text.now x e h c.in-45.is in c.in-err-n.ensures (suc m.0) m.2 m.3)
+pub returns-in_err-n-in-45 : goal.returns-in_err-n-in-45
+returns-in_err-n-in-45 c =
+    let p = err_from_is_err_and c.from_residual.result c.from_residual.ensures.1 in
+    rw p.1 (λ x e h. let m = signed-minus c.args.text.now x e h c.in-45.is in c.in_err-n-in-45.ensures (suc m.0) m.2 m.3)
 
 pub returns-then-n-eq0 : goal.returns-then-n-eq0
 returns-then-n-eq0 c =
     λ x e h.
     let m = signed-minus c.args.text.now x e h c.in-45.is in
-    let n = c.in-ok-n.ensures in
-    omega (arith, decimal_injective c.in-ok-n.n (suc m.0) (omega arith) (omega arith) (sym n.0 ∙ m.2))
+    let n = c.in_ok-n-in-45.ensures in
+    omega (arith, decimal_injective c.in_ok-n-in-45.n (suc m.0) (omega arith) (omega arith) (sym n.0 ∙ m.2))
 
 pub returns-else-n-eq0 : goal.returns-else-n-eq0
 returns-else-n-eq0 c =
-    let n = c.in-ok-n.ensures in
-    let e : suc (c.in-ok-n.n - 1) ≡ c.in-ok-n.n = omega arith in
-    let z : to_z w32 (of_z w32 (pos 0 -ℤ to_z w32 c.in-ok-n.n)) ≡ negsuc (c.in-ok-n.n - 1) = omega (arith, ints) in
-    rw z (minus-decimal c.args.text.now (c.in-ok-n.n - 1) (omega arith) c.in-45.is (n.0 ∙ ap decimal (sym e)), omega arith)
+    let n = c.in_ok-n-in-45.ensures in
+    let e : suc (c.in_ok-n-in-45.n - 1) ≡ c.in_ok-n-in-45.n = omega arith in
+    let z : to_z w32 (of_z w32 (pos 0 -ℤ to_z w32 c.in_ok-n-in-45.n)) ≡ negsuc (c.in_ok-n-in-45.n - 1) = omega (arith, ints) in
+    rw z (minus-decimal c.args.text.now (c.in_ok-n-in-45.n - 1) (omega arith) c.in-45.is (n.0 ∙ ap decimal (sym e)), omega arith)

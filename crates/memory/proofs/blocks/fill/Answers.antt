@@ -6,13 +6,13 @@ use Rattle.memory.proofs.blocks.fill.Goals as goal
 pub loop-i-init : goal.loop-i-init
 loop-i-init g c = (sym (pasted-none (g.M.WordMemory.words c.args.memory.now) c.args.at), refl)
 
-pub returns-in-err-write : goal.returns-in-err-write
-returns-in-err-write g c =
+pub returns-in_err-write : goal.returns-in_err-write
+returns-in_err-write g c =
     let e = ap length c.loop-i.invariant.0 in
     let f = length-pasted (g.M.WordMemory.words c.args.memory.now) c.args.at (replicate c.loop-i.i c.args.w) in
-    let z : ⊥ = omega (arith, c.in-err-write.ensures.after.0) in absurd z
+    let z : ⊥ = omega (arith, c.in_err-write.ensures.after.0) in absurd z
 
 pub loop-i-preserved : goal.loop-i-preserved
 loop-i-preserved g c =
     let more = pasted-replicate (g.M.WordMemory.words c.args.memory.now) c.args.at c.loop-i.i c.args.w in
-    let wrote = c.in-ok-write.ensures in (cc wrote.after.1, cc wrote.lender)
+    let wrote = c.in_ok-write.ensures in (cc wrote.after.1, cc wrote.lender)

@@ -17,7 +17,7 @@ returns c =
     let s = take (length t - a) (drop a t) in
     let r : s ≡ drop a t = take_rest t a in
     let first : lines_of s ≡ take n s ∷ lines_of (drop n s) =
-    lines-first s c.up-to.result n (omega arith) c.up-to.ensures.before c.up-to.ensures.found c.min-size.ensures in
+    lines-first s c.up_to.result n (omega arith) c.up_to.ensures.before c.up_to.ensures.found c.min-size.ensures in
     let z : n - 0 ≡ n = omega arith in
     let d : drop n s ≡ drop (a + n) t = ap (drop n) r ∙ drop-drop n a t in
     (cc, refl, refl)
