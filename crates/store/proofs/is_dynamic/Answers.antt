@@ -2,10 +2,10 @@ use Rattle.std.proofs.Common.{rules}
 use Rattle.store.proofs.is_dynamic.Goals as goal
 use Rattle.store.specs.Checks.{dynamic_word}
 
-pub returns-then-is-some : goal.returns-then-is-some
+pub returns-then-is_some : goal.returns-then-is_some
 unfolding dynamic_word
-returns-then-is-some c = search rules
+returns-then-is_some c = search rules
 
-pub returns-else-is-some : goal.returns-else-is-some
+pub returns-else-is_some : goal.returns-else-is_some
 unfolding dynamic_word
-returns-else-is-some c = search rules
+returns-else-is_some c = search rules

@@ -2,9 +2,9 @@ use Rattle.std.proofs.Common.{rules}
 use Rattle.store.proofs.state.Store.reaches.Goals as goal
 use Rattle.store.specs.Checks.{reaches}
 
-pub returns-in-default : goal.returns-in-default
+pub returns-in_default : goal.returns-in_default
 unfolding reaches
-returns-in-default c = search rules
+returns-in_default c = search rules
 
 pub returns-then-space-self : goal.returns-then-space-self
 unfolding reaches
