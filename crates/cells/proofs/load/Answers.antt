@@ -2,17 +2,17 @@ use Rattle.std.proofs.Common.{rules}
 use Rattle.cells.proofs.load.Goals as goal
 use Rattle.cells.specs.Cells.{loaded}
 
-pub returns-in-err-w : goal.returns-in-err-w
+pub returns-in_err-w : goal.returns-in_err-w
 unfolding loaded
-returns-in-err-w g c = search rules
+returns-in_err-w g c = search rules
 
 pub returns-then-shape : goal.returns-then-shape
 unfolding loaded
 returns-then-shape g c = search rules
 
-pub returns-in-err-w-2 : goal.returns-in-err-w-2
+pub returns-in_err-w-2 : goal.returns-in_err-w-2
 unfolding loaded
-returns-in-err-w-2 g c = search rules
+returns-in_err-w-2 g c = search rules
 
 pub returns : goal.returns
 unfolding loaded

@@ -7,8 +7,8 @@ use Rattle.fresh.proofs.empty_store.Goals as goal
 pub starts-requires : goal.starts-requires
 starts-requires c = rw c.lengths-rooms.ensures (fit-narrow c.args.windows c.requires)
 
-pub invariant-of-result : goal.invariant-of-result
-invariant-of-result c =
+pub invariant_of-result : goal.invariant_of-result
+invariant_of-result c =
     let small : All (λ n. n ≤ 65536) c.lengths-rooms.result = rw c.lengths-rooms.ensures (fit-narrow c.args.windows c.requires) in
     let n = ap length c.lengths-rooms.ensures ∙ length-lengths c.args.windows in
     let w : 0 < 2 = omega arith in

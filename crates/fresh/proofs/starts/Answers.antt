@@ -5,8 +5,8 @@ use Rattle.std.proofs.lemmas.Bool.{cases_eq}
 use Rattle.fresh.proofs.Sums.{sums-starts, sum-narrow}
 use Rattle.fresh.proofs.starts.Goals as goal
 
-pub overflow-add-starts : goal.overflow-add-starts
-overflow-add-starts c =
+pub overflow_add-starts : goal.overflow_add-starts
+overflow_add-starts c =
     let i = c.loop-i.i in
     let s = c.loop-i.invariant.1 i (omega arith) in
     let m = sum_by_more (λ x. x) c.args.rooms i 0 (omega arith) in

@@ -2,18 +2,18 @@ use Rattle.std.proofs.Common.{rules}
 use Rattle.objects.proofs.extent.Goals as goal
 use Rattle.objects.specs.Open.{extent}
 
-pub returns-then-not-in-use : goal.returns-then-not-in-use
+pub returns-then-not-in_use : goal.returns-then-not-in_use
 unfolding extent
-returns-then-not-in-use g c = search rules
+returns-then-not-in_use g c = search rules
 
-pub returns-in-err-first : goal.returns-in-err-first
+pub returns-in_err-first : goal.returns-in_err-first
 unfolding extent
-returns-in-err-first g c = search rules
+returns-in_err-first g c = search rules
 
-pub returns-then-in-use : goal.returns-then-in-use
+pub returns-then-in_use : goal.returns-then-in_use
 unfolding extent
-returns-then-in-use g c = search rules
+returns-then-in_use g c = search rules
 
-pub returns-else-is-headed : goal.returns-else-is-headed
+pub returns-else-is_headed : goal.returns-else-is_headed
 unfolding extent
-returns-else-is-headed g c = search rules
+returns-else-is_headed g c = search rules

@@ -10,14 +10,14 @@ pub returns-in-None : goal.returns-in-None
 unfolding measured
 returns-in-None g c = search rules
 
-pub returns-in-err-second : goal.returns-in-err-second
+pub returns-in_err-second : goal.returns-in_err-second
 unfolding measured
-returns-in-err-second g c = search rules
+returns-in_err-second g c = search rules
 
-pub returns-in-Some-packed-cells : goal.returns-in-Some-packed-cells
+pub returns-in-Some-packed_cells : goal.returns-in-Some-packed_cells
 unfolding measured
-returns-in-Some-packed-cells g c = search rules
+returns-in-Some-packed_cells g c = search rules
 
-pub returns-in-None-packed-cells : goal.returns-in-None-packed-cells
+pub returns-in-None-packed_cells : goal.returns-in-None-packed_cells
 unfolding measured
-returns-in-None-packed-cells g c = search rules
+returns-in-None-packed_cells g c = search rules

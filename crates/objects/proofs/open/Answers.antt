@@ -2,17 +2,17 @@ use Rattle.std.proofs.Common.{rules}
 use Rattle.objects.proofs.open.Goals as goal
 use Rattle.objects.specs.Open.{opened}
 
-pub returns-in-default : goal.returns-in-default
+pub returns-in_default : goal.returns-in_default
 unfolding opened
-returns-in-default g c = search rules
+returns-in_default g c = search rules
 
-pub returns-in-err-size : goal.returns-in-err-size
+pub returns-in_err-size : goal.returns-in_err-size
 unfolding opened
-returns-in-err-size g c = search rules
+returns-in_err-size g c = search rules
 
-pub returns-in-err-cells : goal.returns-in-err-cells
+pub returns-in_err-cells : goal.returns-in_err-cells
 unfolding opened
-returns-in-err-cells g c = search rules
+returns-in_err-cells g c = search rules
 
 pub returns : goal.returns
 unfolding opened
