@@ -3,7 +3,7 @@
 
 ghost use Rattle.std.specs.Prelude.{◌≡◌, ℕ, Bool};
 ghost use Rattle.store.specs.View.{table_of};
-ghost use Rattle.cells.specs.Cells.{cell_place, entry_place, believed, loaded, fits_cell, frozen_cell, saved};
+ghost use Rattle.cells.specs.Cells.{cell_place, entry_place, leads_on, believed, loaded, fits_cell, frozen_cell, saved};
 
 use answers::{Place, Refusal};
 use kinds::{Class, class_of, entry_number};
@@ -29,19 +29,32 @@ fn entry_place(object: Opened, k: u32) -> usize
     object.base as usize + object.kind.shape().heads + word as usize
 }
 
+/// A pointer that cell `k` may hold leads to an object in use, and out of read-only space to no dynamic one.
+fn leads_on(store: &Store, object: Opened, w: u32, class: Class) -> bool
+    ensures { result ≡ leads_on (table_of store.now) object w class }
+{
+    match class {
+        Class::Pointer(_) => store.reaches(w) && !(object.space == READ_ONLY && is_dynamic(w)),
+        _ => true,
+    }
+}
+
 /// The word that cell `k` holds, where a call could have left it there.
 fn believe(store: &Store, object: Opened, k: u32, w: u32) -> Result<u32, Refusal>
     ensures { result ≡ believed (table_of store.now) object k w }
 {
     let kind = object.kind;
     let foreign = Refusal::Foreign(Place::Memory(cell_place(object, k)));
-    match class_of(w) {
-        None => Err(foreign),
-        Some(Class::Unset) if kind.starts_unset(k as usize) => Err(Refusal::Unset),
-        Some(Class::Pointer(_)) if !store.reaches(w) => Err(foreign),
-        Some(Class::Pointer(_)) if object.space == READ_ONLY && is_dynamic(w) => Err(foreign),
-        Some(class) if kind.accepts(k as usize, class) => Ok(w),
-        Some(_) => Err(foreign),
+    let Some(class) = class_of(w) else {
+        return Err(foreign);
+    };
+    if class == Class::Unset && kind.starts_unset(k as usize) {
+        return Err(Refusal::Unset);
+    }
+    if leads_on(store, object, w, class) && kind.accepts(k as usize, class) {
+        Ok(w)
+    } else {
+        Err(foreign)
     }
 }
 

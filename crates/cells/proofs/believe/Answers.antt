@@ -1,27 +1,19 @@
 use Rattle.std.proofs.Common.{rules}
-use Rattle.cells.proofs.believe.Goals as goal
 use Rattle.cells.specs.Cells.{believed}
+use Rattle.cells.proofs.believe.Goals as goal
 
-pub returns-in-None : goal.returns-in-None
+pub returns-in_default : goal.returns-in_default
 unfolding believed
-returns-in-None c = search rules
+returns-in_default c = search rules
 
-pub returns-in-Some-Unset : goal.returns-in-Some-Unset
+pub returns-then-starts_unset : goal.returns-then-starts_unset
 unfolding believed
-returns-in-Some-Unset c = search rules
+returns-then-starts_unset c = search rules
 
-pub returns-in-Some-Pointer : goal.returns-in-Some-Pointer
+pub returns-then-accepts : goal.returns-then-accepts
 unfolding believed
-returns-in-Some-Pointer c = search rules
+returns-then-accepts c = search rules
 
-pub returns-in-Some-Pointer-2 : goal.returns-in-Some-Pointer-2
+pub returns-else-leads_on : goal.returns-else-leads_on
 unfolding believed
-returns-in-Some-Pointer-2 c = search rules
-
-pub returns-in-Some : goal.returns-in-Some
-unfolding believed
-returns-in-Some c = search rules
-
-pub returns-in-Some-2 : goal.returns-in-Some-2
-unfolding believed
-returns-in-Some-2 c = search rules
+returns-else-leads_on c = search rules

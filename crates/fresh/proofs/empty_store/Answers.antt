@@ -12,4 +12,4 @@ invariant_of-result c =
     let small : All (λ n. n ≤ 65536) c.lengths-rooms.result = rw c.lengths-rooms.ensures (fit-narrow c.args.windows c.requires) in
     let n = ap length c.lengths-rooms.ensures ∙ length-lengths c.args.windows in
     let w : 0 < 2 = omega arith in
-    (fresh-ordered c.starts.result c.lengths-rooms.result c.starts.ensures (omega (arith, n)) small, (w, tt))
+    record { ordered = fresh-ordered c.starts.result c.lengths-rooms.result c.starts.ensures (omega (arith, n)) small; which = w }
