@@ -6,17 +6,17 @@ pub returns-then-at-object : goal.returns-then-at-object
 unfolding write_refused
 returns-then-at-object c = search rules
 
-pub returns-then-not-can-take : goal.returns-then-not-can-take
+pub returns-then-not-can_take : goal.returns-then-not-can_take
 unfolding write_refused
-returns-then-not-can-take c = search rules
+returns-then-not-can_take c = search rules
 
-pub returns-then-is-frozen : goal.returns-then-is-frozen
+pub returns-then-is_frozen : goal.returns-then-is_frozen
 unfolding write_refused
-returns-then-is-frozen c = search rules
+returns-then-is_frozen c = search rules
 
-pub returns-then-is-dynamic : goal.returns-then-is-dynamic
+pub returns-then-is_dynamic : goal.returns-then-is_dynamic
 unfolding write_refused
-returns-then-is-dynamic c = search rules
+returns-then-is_dynamic c = search rules
 
 pub returns : goal.returns
 unfolding write_refused

@@ -2,9 +2,9 @@ use Rattle.std.proofs.Common.{rules}
 use Rattle.access.proofs.told.Goals as goal
 use Rattle.access.specs.Access.{told_word}
 
-pub returns-in-err-object : goal.returns-in-err-object
+pub returns-in_err-object-in-None : goal.returns-in_err-object-in-None
 unfolding told_word
-returns-in-err-object g c = search rules
+returns-in_err-object-in-None g c = search rules
 
 pub returns-in-Some-Fixnum : goal.returns-in-Some-Fixnum
 unfolding told_word

@@ -2,22 +2,22 @@ use Rattle.std.proofs.Common.{rules}
 use Rattle.making.proofs.claim.Goals as goal
 use Rattle.making.specs.Make.{claimed, room_for}
 
-pub invariant-of-store : goal.invariant-of-store
+pub invariant_of-store : goal.invariant_of-store
 unfolding claimed room_for
-invariant-of-store c = search rules
+invariant_of-store c = search rules
 
-pub overflow-add-store : goal.overflow-add-store
+pub overflow_add-store : goal.overflow_add-store
 unfolding claimed room_for
-overflow-add-store c = search rules
+overflow_add-store c = search rules
 
-pub invariant-of-store-in-default : goal.invariant-of-store-in-default
+pub invariant_of-store-in_default : goal.invariant_of-store-in_default
 unfolding claimed room_for
-invariant-of-store-in-default c = search rules
+invariant_of-store-in_default c = search rules
 
 pub returns-in-Dynamic : goal.returns-in-Dynamic
 unfolding claimed room_for
 returns-in-Dynamic c = search rules
 
-pub returns-in-default : goal.returns-in-default
+pub returns-in_default : goal.returns-in_default
 unfolding claimed room_for
-returns-in-default c = search rules
+returns-in_default c = search rules

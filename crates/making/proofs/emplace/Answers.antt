@@ -9,21 +9,21 @@ returns-then-not-fits g c =
     let e : leb (c.args.at + (length c.args.head.now + c.args.n)) (length (g.M.WordMemory.words c.args.memory.now)) ≡ false = cc in
     record { emplaces = emplaced-short _ _ _ _ _ e; lender = refl }
 
-pub returns-in-err-paste : goal.returns-in-err-paste
-returns-in-err-paste g c =
+pub returns-in_err-paste : goal.returns-in_err-paste
+returns-in_err-paste g c =
     let e : leb (c.args.at + (length c.args.head.now + c.args.n)) (length (g.M.WordMemory.words c.args.memory.now)) ≡ true = cc in
-    let z : ⊥ = omega (arith, leb-true _ _ e, c.in-err-paste.ensures.after.0) in absurd z
+    let z : ⊥ = omega (arith, leb-true _ _ e, c.in_err-paste.ensures.after.0) in absurd z
 
-pub returns-in-err-fill : goal.returns-in-err-fill
-returns-in-err-fill g c =
+pub returns-in_err-fill : goal.returns-in_err-fill
+returns-in_err-fill g c =
     let e : leb (c.args.at + (length c.args.head.now + c.args.n)) (length (g.M.WordMemory.words c.args.memory.now)) ≡ true = cc in
-    let n = ap length c.in-ok-paste.ensures.after.1 ∙ length-pasted (g.M.WordMemory.words c.args.memory.now) c.args.at c.args.head.now in
-    let z : ⊥ = omega (arith, leb-true _ _ e, n, c.in-err-fill.ensures.after.0) in absurd z
+    let n = ap length c.in_ok-paste.ensures.after.1 ∙ length-pasted (g.M.WordMemory.words c.args.memory.now) c.args.at c.args.head.now in
+    let z : ⊥ = omega (arith, leb-true _ _ e, n, c.in_err-fill.ensures.after.0) in absurd z
 
 pub returns : goal.returns
 returns g c =
     let e : leb (c.args.at + (length c.args.head.now + c.args.n)) (length (g.M.WordMemory.words c.args.memory.now)) ≡ true = cc in
     record {
-      emplaces = emplaced-both _ _ _ _ _ _ _ e c.in-ok-paste.ensures.after.1 c.in-ok-fill.ensures.after.1;
-      lender = c.in-ok-fill.ensures.lender ∙ c.in-ok-paste.ensures.lender;
+      emplaces = emplaced-both _ _ _ _ _ _ _ e c.in_ok-paste.ensures.after.1 c.in_ok-fill.ensures.after.1;
+      lender = c.in_ok-fill.ensures.lender ∙ c.in_ok-paste.ensures.lender;
     }

@@ -4,15 +4,15 @@ use Rattle.making.proofs.Emplaced.{block-long}
 use Rattle.making.proofs.Made.{emplaced-kept}
 use Rattle.making.proofs.make.Goals as goal
 
-pub returns-in-err-offset : goal.returns-in-err-offset
+pub returns-in_err-offset : goal.returns-in_err-offset
 unfolding made
-returns-in-err-offset g c = let b = block-long c.args.head.now c.args.n c.args.w in search rules
+returns-in_err-offset g c = let b = block-long c.args.head.now c.args.n c.args.w in search rules
 
-pub returns-in-err-emplace : goal.returns-in-err-emplace
+pub returns-in_err-emplace : goal.returns-in_err-emplace
 unfolding made
-returns-in-err-emplace g c =
+returns-in_err-emplace g c =
     let b = block-long c.args.head.now c.args.n c.args.w in
-    let k = emplaced-kept _ _ _ _ _ c.in-err-emplace.ensures.emplaces in search rules
+    let k = emplaced-kept _ _ _ _ _ c.in_err-emplace.ensures.emplaces in search rules
 
 pub returns : goal.returns
 unfolding made

@@ -10,6 +10,6 @@ pub returns-in-Dynamic : goal.returns-in-Dynamic
 unfolding room_for
 returns-in-Dynamic c = search rules
 
-pub returns-in-default : goal.returns-in-default
+pub returns-in_default : goal.returns-in_default
 unfolding room_for
-returns-in-default c = search rules
+returns-in_default c = search rules

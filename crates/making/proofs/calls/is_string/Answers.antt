@@ -6,14 +6,14 @@ pub returns-in-Some-Pointer-String : goal.returns-in-Some-Pointer-String
 unfolding string_word
 returns-in-Some-Pointer-String c = search rules
 
-pub returns-in-default : goal.returns-in-default
+pub returns-in_default : goal.returns-in_default
 unfolding string_word
-returns-in-default c = search rules
+returns-in_default c = search rules
 
-pub returns-in-default·2 : goal.returns-in-default·2
+pub returns-in_default·2 : goal.returns-in_default·2
 unfolding string_word
-returns-in-default·2 c = search rules
+returns-in_default·2 c = search rules
 
-pub returns-in-default·3 : goal.returns-in-default·3
+pub returns-in_default·3 : goal.returns-in_default·3
 unfolding string_word
-returns-in-default·3 c = search rules
+returns-in_default·3 c = search rules
