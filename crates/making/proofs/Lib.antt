@@ -1,2 +1,3 @@
 pub mod Emplaced
 pub mod Made
+pub mod Cursors

@@ -10,10 +10,10 @@ pub returns-in_default : goal.returns-in_default
 unfolding string_word
 returns-in_default c = search rules
 
-pub returns-in_default·2 : goal.returns-in_default·2
+pub returns-in_default-2 : goal.returns-in_default-2
 unfolding string_word
-returns-in_default·2 c = search rules
+returns-in_default-2 c = search rules
 
-pub returns-in_default·3 : goal.returns-in_default·3
+pub returns-in_default-3 : goal.returns-in_default-3
 unfolding string_word
-returns-in_default·3 c = search rules
+returns-in_default-3 c = search rules
