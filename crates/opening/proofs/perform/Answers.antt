@@ -3,21 +3,21 @@ use Rattle.opening.proofs.perform.Goals as goal
 use Rattle.store.specs.Spaces.{code_of}
 use Rattle.opening.specs.Opening.{performed}
 
-pub returns-in-err-put : goal.returns-in-err-put
+pub returns-in_err-put-in-Put : goal.returns-in_err-put-in-Put
 unfolding performed
-returns-in-err-put g c = let e = c.in-err-put.ensures.does (code_of c.args.space) in search rules
+returns-in_err-put-in-Put g c = let e = c.in_err-put-in-Put.ensures.does (code_of c.args.space) in search rules
 
-pub returns-in-err-read : goal.returns-in-err-read
+pub returns-in_err-read-in-Read : goal.returns-in_err-read-in-Read
 unfolding performed
-returns-in-err-read g c = let e = c.in-err-read.ensures.does (code_of c.args.space) in search rules
+returns-in_err-read-in-Read g c = let e = c.in_err-read-in-Read.ensures.does (code_of c.args.space) in search rules
 
-pub returns-in-err-write : goal.returns-in-err-write
+pub returns-in_err-write-in-Write : goal.returns-in_err-write-in-Write
 unfolding performed
-returns-in-err-write g c = let e = c.in-err-write.ensures.does (code_of c.args.space) in search rules
+returns-in_err-write-in-Write g c = let e = c.in_err-write-in-Write.ensures.does (code_of c.args.space) in search rules
 
-pub returns-in-ok-put : goal.returns-in-ok-put
+pub returns-in_ok-put-in-Put : goal.returns-in_ok-put-in-Put
 unfolding performed
-returns-in-ok-put g c = let e = c.in-ok-put.ensures.does (code_of c.args.space) in search rules
+returns-in_ok-put-in-Put g c = let e = c.in_ok-put-in-Put.ensures.does (code_of c.args.space) in search rules
 
 pub returns-in-List : goal.returns-in-List
 unfolding performed
@@ -39,10 +39,10 @@ pub returns-in-Words : goal.returns-in-Words
 unfolding performed
 returns-in-Words g c = search rules
 
-pub returns-in-ok-read : goal.returns-in-ok-read
+pub returns-in_ok-read-in-Read : goal.returns-in_ok-read-in-Read
 unfolding performed
-returns-in-ok-read g c = let e = c.in-ok-read.ensures.does (code_of c.args.space) in search rules
+returns-in_ok-read-in-Read g c = let e = c.in_ok-read-in-Read.ensures.does (code_of c.args.space) in search rules
 
-pub returns-in-ok-write : goal.returns-in-ok-write
+pub returns-in_ok-write-in-Write : goal.returns-in_ok-write-in-Write
 unfolding performed
-returns-in-ok-write g c = let e = c.in-ok-write.ensures.does (code_of c.args.space) in search rules
+returns-in_ok-write-in-Write g c = let e = c.in_ok-write-in-Write.ensures.does (code_of c.args.space) in search rules

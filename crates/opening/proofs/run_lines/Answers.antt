@@ -9,29 +9,29 @@ use Rattle.opening.specs.Opening.{Runs}
 use Rattle.opening.proofs.Steps.{runs-end, runs-stop, runs-again, view-settled}
 use Rattle.opening.proofs.run_lines.Goals as goal
 
-pub returns-in-err-count : goal.returns-in-err-count
-returns-in-err-count g c =
+pub returns-in_err-count : goal.returns-in_err-count
+returns-in_err-count g c =
     let whole : Machine → Result ℕ TextFault → Type 0 = Runs (length c.args.control.now) (length c.args.bindings.now) (view c.args.store.now (code_of c.args.space) (g.M.WordMemory.words c.args.memory.now)) 1 0 (lines_of c.args.text.now) in
     let p = c.in-Some.ensures in
-    let y : c.from-residual.result ≡ Err c.in-err-count.field-0.0 = search rules in
+    let y : c.from_residual.result ≡ Err c.in_err-count.field-0.0 = search rules in
     record {
       runs = runs-stop (length c.args.control.now) (length c.args.bindings.now) whole (view c.loop-line.store (code_of c.args.space) (g.M.WordMemory.words c.loop-line.memory))
           c.loop-line.reader.line c.loop-line.total (lines_of (unread c.loop-line.reader)) c.loop-line.invariant.1
-          (view c.run-line.new.store (code_of c.args.space) (g.M.WordMemory.words c.run-line.new.memory)) _ _ p.0 c.in-Some.line.line p.1
-          c.run-line.result c.run-line.ensures.runs c.in-err-count.field-0.0 (sym c.at-line.ensures ∙ c.in-err-count.was) c.from-residual.result y;
-      lender = c.run-line.ensures.lender ∙ c.loop-line.invariant.0;
+          (view c.run_line.new.store (code_of c.args.space) (g.M.WordMemory.words c.run_line.new.memory)) _ _ p.0 c.in-Some.line.line p.1
+          c.run_line.result c.run_line.ensures.runs c.in_err-count.field-0.0 (sym c.at_line.ensures ∙ c.in_err-count.was) c.from_residual.result y;
+      lender = c.run_line.ensures.lender ∙ c.loop-line.invariant.0;
     }
 
 pub loop-line-preserved : goal.loop-line-preserved
 loop-line-preserved g c =
     let whole : Machine → Result ℕ TextFault → Type 0 = Runs (length c.args.control.now) (length c.args.bindings.now) (view c.args.store.now (code_of c.args.space) (g.M.WordMemory.words c.args.memory.now)) 1 0 (lines_of c.args.text.now) in
     let p = c.in-Some.ensures in (
-      c.run-line.ensures.lender ∙ c.loop-line.invariant.0,
+      c.run_line.ensures.lender ∙ c.loop-line.invariant.0,
       runs-again (length c.args.control.now) (length c.args.bindings.now) whole (view c.loop-line.store (code_of c.args.space) (g.M.WordMemory.words c.loop-line.memory))
           c.loop-line.reader.line c.loop-line.total (lines_of (unread c.loop-line.reader)) c.loop-line.invariant.1
-          (view c.run-line.new.store (code_of c.args.space) (g.M.WordMemory.words c.run-line.new.memory)) _ (lines_of (unread c.next-line.new.self)) p.0 c.in-Some.line.line p.1
-          (view-settled c.run-line.new.store c.args.space (g.M.WordMemory.words c.run-line.new.memory)) c.run-line.result c.run-line.ensures.runs c.in-ok-count.count c.saturating-add-total.result c.next-line.new.self.line
-          (sym c.at-line.ensures ∙ c.in-ok-count.was) c.saturating-add-total.ensures p.2,
+          (view c.run_line.new.store (code_of c.args.space) (g.M.WordMemory.words c.run_line.new.memory)) _ (lines_of (unread c.next_line.new.self)) p.0 c.in-Some.line.line p.1
+          (view-settled c.run_line.new.store c.args.space (g.M.WordMemory.words c.run_line.new.memory)) c.run_line.result c.run_line.ensures.runs c.in_ok-count.count c.saturating_add-total.result c.next_line.new.self.line
+          (sym c.at_line.ensures ∙ c.in_ok-count.was) c.saturating_add-total.ensures p.2,
     )
 
 pub returns : goal.returns
@@ -39,6 +39,6 @@ returns g c =
     let whole : Machine → Result ℕ TextFault → Type 0 = Runs (length c.args.control.now) (length c.args.bindings.now) (view c.args.store.now (code_of c.args.space) (g.M.WordMemory.words c.args.memory.now)) 1 0 (lines_of c.args.text.now) in
     record {
       runs = runs-end (length c.args.control.now) (length c.args.bindings.now) whole (view c.loop-line.store (code_of c.args.space) (g.M.WordMemory.words c.loop-line.memory))
-          c.loop-line.reader.line c.loop-line.total (lines_of (unread c.loop-line.reader)) c.loop-line.invariant.1 c.in-default.ensures.0;
+          c.loop-line.reader.line c.loop-line.total (lines_of (unread c.loop-line.reader)) c.loop-line.invariant.1 c.in_default.ensures.0;
       lender = c.loop-line.invariant.0;
     }
