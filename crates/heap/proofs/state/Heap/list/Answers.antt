@@ -6,7 +6,7 @@ use Rattle.heap.proofs.state.Heap.list.Goals as goal
 pub returns : goal.returns
 returns g c = record {
   promised = list-promised (length c.args.control.now) (length c.args.bindings.now) c.args.to c.args.car c.args.cdr _ _ _ _ _ c.args.self.now.store.ordered c.args.self.now.store.which
-      (code-small c.args.self.now.allocation.space) c.make-list-r.ensures.makes (c.note.ensures.noted _) c.note.ensures.same;
+      (code-small c.args.self.now.allocation.space) c.make_list-r.ensures.makes (c.note.ensures.noted _) c.note.ensures.same;
   stacks = (refl, refl);
-  lender = c.make-list-r.ensures.lender;
+  lender = c.make_list-r.ensures.lender;
 }

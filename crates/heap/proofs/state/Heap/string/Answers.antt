@@ -6,7 +6,7 @@ use Rattle.heap.proofs.state.Heap.string.Goals as goal
 pub returns : goal.returns
 returns g c = record {
   promised = string-promised (length c.args.control.now) (length c.args.bindings.now) c.args.to c.args.count _ _ _ _ _ c.args.self.now.store.ordered c.args.self.now.store.which
-      (code-small c.args.self.now.allocation.space) c.make-string-r.ensures.makes (c.note.ensures.noted _) c.note.ensures.same;
+      (code-small c.args.self.now.allocation.space) c.make_string-r.ensures.makes (c.note.ensures.noted _) c.note.ensures.same;
   stacks = (refl, refl);
-  lender = c.make-string-r.ensures.lender;
+  lender = c.make_string-r.ensures.lender;
 }

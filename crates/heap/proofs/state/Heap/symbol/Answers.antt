@@ -6,7 +6,7 @@ use Rattle.heap.proofs.state.Heap.symbol.Goals as goal
 pub returns : goal.returns
 returns g c = record {
   promised = symbol-promised (length c.args.control.now) (length c.args.bindings.now) c.args.to c.args.name _ _ _ _ _ c.args.self.now.store.ordered c.args.self.now.store.which
-      (code-small c.args.self.now.allocation.space) c.make-symbol-r.ensures.makes (c.note.ensures.noted _) c.note.ensures.same;
+      (code-small c.args.self.now.allocation.space) c.make_symbol-r.ensures.makes (c.note.ensures.noted _) c.note.ensures.same;
   stacks = (refl, refl);
-  lender = c.make-symbol-r.ensures.lender;
+  lender = c.make_symbol-r.ensures.lender;
 }

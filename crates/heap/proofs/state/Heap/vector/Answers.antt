@@ -6,7 +6,7 @@ use Rattle.heap.proofs.state.Heap.vector.Goals as goal
 pub returns : goal.returns
 returns g c = record {
   promised = vector-promised (length c.args.control.now) (length c.args.bindings.now) c.args.to c.args.count c.args.fill _ _ _ _ _ c.args.self.now.store.ordered c.args.self.now.store.which
-      (code-small c.args.self.now.allocation.space) c.make-vector-r.ensures.makes (c.note.ensures.noted _) c.note.ensures.same;
+      (code-small c.args.self.now.allocation.space) c.make_vector-r.ensures.makes (c.note.ensures.noted _) c.note.ensures.same;
   stacks = (refl, refl);
-  lender = c.make-vector-r.ensures.lender;
+  lender = c.make_vector-r.ensures.lender;
 }

@@ -6,7 +6,7 @@ use Rattle.heap.proofs.state.Heap.words.Goals as goal
 pub returns : goal.returns
 returns g c = record {
   promised = words-promised (length c.args.control.now) (length c.args.bindings.now) c.args.to c.args.count c.args.access _ _ _ _ _ c.args.self.now.store.ordered c.args.self.now.store.which
-      (code-small c.args.self.now.allocation.space) c.make-words-r.ensures.makes (c.note.ensures.noted _) c.note.ensures.same;
+      (code-small c.args.self.now.allocation.space) c.make_words-r.ensures.makes (c.note.ensures.noted _) c.note.ensures.same;
   stacks = (refl, refl);
-  lender = c.make-words-r.ensures.lender;
+  lender = c.make_words-r.ensures.lender;
 }
