@@ -6,16 +6,16 @@ use Rattle.heap.specs.View.{machine}
 use Rattle.sheet.proofs.Run.{sheet-gives, same-fault, no-fault}
 use Rattle.sheet.proofs.run_sheet.Goals as goal
 
-pub returns-in-err-open-text : goal.returns-in-err-open-text
-returns-in-err-open-text g c =
-    let w = err_from_is_err_and c.from-residual-in-err-open-text.result c.from-residual-in-err-open-text.ensures.1 in
-    let y : c.from-residual-in-err-open-text.result ≡ Err c.in-err-open-text.field-0.0 = (w.1 ∙ ap Err w.2) in
-    let st = c.in-ok-heap.ensures in
-    sheet-gives c.args.text.now _ _ c.open-text.result c.from-residual-in-err-open-text.result st.0 st.1 c.open-text.ensures.promised
-    (λ f e. y ∙ same-fault _ _ (sym c.in-err-open-text.was ∙ e)) (λ k e. absurd (no-fault _ _ (sym c.in-err-open-text.was ∙ e)))
+pub returns-in_err-open_text : goal.returns-in_err-open_text
+returns-in_err-open_text g c =
+    let w = err_from_is_err_and c.from_residual-in_err-open_text.result c.from_residual-in_err-open_text.ensures.1 in
+    let y : c.from_residual-in_err-open_text.result ≡ Err c.in_err-open_text.field-0.0 = (w.1 ∙ ap Err w.2) in
+    let st = c.in_ok-heap.ensures in
+    sheet-gives c.args.text.now _ _ c.open_text.result c.from_residual-in_err-open_text.result st.0 st.1 c.open_text.ensures.promised
+    (λ f e. y ∙ same-fault _ _ (sym c.in_err-open_text.was ∙ e)) (λ k e. absurd (no-fault _ _ (sym c.in_err-open_text.was ∙ e)))
 
 pub returns : goal.returns
 returns g c =
-    let st = c.in-ok-heap.ensures in
-    sheet-gives c.args.text.now _ _ c.open-text.result (Ok c.tell-all.result) st.0 st.1 c.open-text.ensures.promised
-    (λ f e. absurd (no-fault _ _ (sym e ∙ c.in-ok-open-text.was))) (λ k e s q. ap Ok (c.tell-all.ensures s q))
+    let st = c.in_ok-heap.ensures in
+    sheet-gives c.args.text.now _ _ c.open_text.result (Ok c.tell_all.result) st.0 st.1 c.open_text.ensures.promised
+    (λ f e. absurd (no-fault _ _ (sym e ∙ c.in_ok-open_text.was))) (λ k e s q. ap Ok (c.tell_all.ensures s q))

@@ -6,5 +6,5 @@ use Rattle.sheet.proofs.sheet_heap.Goals as goal
 
 pub returns : goal.returns
 returns g c =
-    lined-heap (λ h. Still (machine h (g.M.WordMemory.words c.new.new.memory)) (empty_state sheet_windows)) c.new.result c.at-line.result c.at-line.ensures
+    lined-heap (λ h. Still (machine h (g.M.WordMemory.words c.new.new.memory)) (empty_state sheet_windows)) c.new.result c.at_line.result c.at_line.ensures
     (sheet-heap (g.M.WordMemory.words c.args.memory.now) (g.M.WordMemory.words c.new.new.memory) c.new.result c.requires c.new.ensures.makes c.new.ensures.empty)

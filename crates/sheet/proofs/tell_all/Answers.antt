@@ -7,11 +7,11 @@ use Rattle.sheet.proofs.tell_all.Goals as goal
 
 pub loop-r-preserved : goal.loop-r-preserved
 loop-r-preserved g c = (
-  length-set c.loop-r.told c.loop-r.r c.told-or-null.result ∙ c.loop-r.invariant.0,
+  length-set c.loop-r.told c.loop-r.r c.told_or_null.result ∙ c.loop-r.invariant.0,
   λ s st.
       let h = c.loop-r.invariant.1 s st in
-      let z = c.told-or-null.ensures s (omega arith) h.0 in
-      (z.1, told_more c.loop-r.told c.loop-r.r c.told-or-null.result (λ i. told s (register s i)) (omega (arith, c.loop-r.invariant.0)) h.1 z.0),
+      let z = c.told_or_null.ensures s (omega arith) h.0 in
+      (z.1, told_more c.loop-r.told c.loop-r.r c.told_or_null.result (λ i. told s (register s i)) (omega (arith, c.loop-r.invariant.0)) h.1 z.0),
 )
 
 pub returns : goal.returns
