@@ -1,5 +1,6 @@
 // What is sent back in place of an answer, with its number.
 #![tactic(auto)]
+
 ghost use Rattle.std.specs.Prelude.{◌≡◌};
 ghost use Rattle.answers.specs.Numbers.{number_of, place_of};
 ghost use Rattle.answers.specs.declared.Refusal.TheVariants.{Short, NoForm as no_form};

@@ -1,5 +1,5 @@
 -- The worked figures of the formats, as one fact of the definitions that the contracts use.
-use Rattle.std.specs.Prelude.{ℕ, ◌<◌, ◌≡◌, false, List, [], ◌∷◌, negsuc, length, get_or}
+use Rattle.std.specs.Prelude.{ℕ, ◌<◌, ◌≡◌, false, List, [], ◌∷◌, negsuc, length, slice_index}
 use Rattle.words.specs.Words.{data_of, pointer_word, forward_word, low_half, high_half}
 use Rattle.memory.specs.Halves.{paired}
 use Rattle.graph.specs.Graph.{fixnum, character, null, Value, plain, uvector, string, list, Object}
@@ -30,4 +30,4 @@ pub record Figures : Type 0 where
   pub bits_second : (vs : List Value) → length vs ≡ 33 → want (bits vs) 1 ≡ exact 0x00000021
   pub low : low_half 0xB4000028 ≡ 0x0028
   pub high : high_half 0xB4000028 ≡ 0xB400
-  pub place : (hs : List ℕ) → ((k : ℕ) → get_or hs k 0 < 65536) → get_or (paired hs) 3 0 ≡ 0xB4000028 → (get_or hs 6 0 ≡ 0x0028) × (get_or hs 7 0 ≡ 0xB400)
+  pub place : (hs : List ℕ) → ((k : ℕ) → slice_index hs k < 65536) → slice_index (paired hs) 3 ≡ 0xB4000028 → (slice_index hs 6 ≡ 0x0028) × (slice_index hs 7 ≡ 0xB400)

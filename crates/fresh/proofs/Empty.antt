@@ -1,6 +1,6 @@
 -- A store just made is in order, and shows the empty state.
 use Rattle.std.proofs.Common.{◌≡◌, ℕ, zero, suc, ◌-◌, ◌<◌, ◌≤◌, true, List, length, get_or, replicate, sum, sym, refl, ◌∙◌, arith}
-use Rattle.std.specs.List.{AllByRecursion as All}
+use Rattle.std.specs.List.{AllByRecursion}
 use Rattle.std.proofs.ByRecursion.{All-get_or}
 use Rattle.std.proofs.lemmas.Bool.{ne_eqb}
 use Rattle.kinds.specs.declared.kind.Kind.{Kind}
@@ -16,7 +16,7 @@ use Rattle.fresh.specs.Windows.{of_kind, lengths, windows_fit, no_windows, empty
 use Rattle.fresh.proofs.Rooms.{length-lengths, get_or-lengths, fit-narrow}
 use Rattle.fresh.proofs.Sums.{starts-sum, starts-next, starts-end, sum-narrow}
 
-pub fresh-ordered : (xs ns : List ℕ) → xs ≡ starts_from 0 ns → length ns ≡ windows → All (λ n. n ≤ 65536) ns → Ordered xs (replicate windows 0) ns
+pub fresh-ordered : (xs ns : List ℕ) → xs ≡ starts_from 0 ns → length ns ≡ windows → AllByRecursion (λ n. n ≤ 65536) ns → Ordered xs (replicate windows 0) ns
 fresh-ordered xs ns e len small =
     λ j l.
     let low = get_or-all windows j 0 in

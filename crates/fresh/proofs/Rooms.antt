@@ -1,6 +1,6 @@
 -- Laws of the windows' lengths.
 use Rattle.std.proofs.Common.{◌≡◌, ℕ, zero, suc, ◌+◌, ◌*◌, ◌<◌, ◌≤◌, true, false, ◌&&◌, leb, List, [], ◌∷◌, ◌++◌, length, get_or, take, drop, set, sym, refl, ap, ◌∙◌, arith}
-use Rattle.std.specs.List.{AllByRecursion as All}
+use Rattle.std.specs.List.{AllByRecursion}
 use Rattle.std.proofs.lemmas.List.{append_assoc, length-set, take_more, take_more_set, drop_more, drop_all, flat_map_more}
 use Rattle.std.proofs.lemmas.Bool.{and_parts, leb-true}
 use Rattle.fresh.specs.declared.windows.Windows.{Windows}
@@ -35,7 +35,7 @@ get_or-lengths (w ∷ ws) (suc k) e d l f =
     rw z (get_or-lengths ws k e d (omega arith) f)
 
 -- Windows that fit are all narrow.
-pub fit-narrow : (ws : List Windows) → windows_fit ws ≡ true → All (λ n. n ≤ 65536) (lengths ws)
+pub fit-narrow : (ws : List Windows) → windows_fit ws ≡ true → AllByRecursion (λ n. n ≤ 65536) (lengths ws)
 unfolding lengths windows_fit
 fit-narrow [] e = tt
 fit-narrow (w ∷ ws) e =

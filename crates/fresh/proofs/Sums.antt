@@ -1,6 +1,6 @@
 -- Laws of the windows' starts: each is the sum of the lengths before it.
 use Rattle.std.proofs.Common.{◌≡◌, ℕ, zero, suc, ◌+◌, ◌*◌, ◌<◌, ◌≤◌, List, [], ◌∷◌, length, get_or, take, sum, sym, refl, ap, ◌∙◌, arith}
-use Rattle.std.specs.List.{AllByRecursion as All}
+use Rattle.std.specs.List.{AllByRecursion}
 use Rattle.std.proofs.lemmas.List.{get_or_default, same_lists, take_all}
 use Rattle.std.proofs.lemmas.List.Sums.{sum_by-cons, sum_by_more, sum_by-take-le}
 use Rattle.std.proofs.ByRecursion.{sum_by_le}
@@ -42,7 +42,7 @@ sums-starts xs ns n h =
     let f = h k (omega arith) in omega (arith, s, e, f))
 
 -- No sum of the first lengths is over the limit.
-pub sum-narrow : (ns : List ℕ) (j : ℕ) → All (λ n. n ≤ 65536) ns → sum (take j ns) ≤ length ns * 65536
+pub sum-narrow : (ns : List ℕ) (j : ℕ) → AllByRecursion (λ n. n ≤ 65536) ns → sum (take j ns) ≤ length ns * 65536
 sum-narrow ns j h =
     let a = sum_by-take-le (λ x. x) ns j in
     let b = sum_by_le (λ x. x) 65536 ns h in omega arith

@@ -2,7 +2,7 @@
 #![tactic(auto)]
 
 ghost use Rattle.std.specs.Prelude.{◌≡◌, ℕ, ◌≤◌, true, List, length, IfOk};
-ghost use Rattle.std.specs.List.{AllByRecursion as All};
+ghost use Rattle.std.specs.List.{AllByRecursion};
 ghost use Rattle.layout.specs.Fresh.{starts_from, fresh_machine};
 ghost use Rattle.store.specs.View.{view};
 ghost use Rattle.promises.specs.Promise.{Depicts};
@@ -48,7 +48,7 @@ fn lengths(windows: [Windows; 5]) -> [usize; 20]
 
 /// Where windows of this many words begin, and where the last one ends.
 fn starts(rooms: [usize; 20]) -> [usize; 21]
-    requires { All (λ n. n ≤ 65536) rooms }
+    requires { AllByRecursion (λ n. n ≤ 65536) rooms }
     ensures { result ≡ starts_from 0 rooms }
 {
     let mut starts = [0; 21];

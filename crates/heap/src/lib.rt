@@ -126,16 +126,9 @@ impl Heap {
         ensures stacks { (control.new ≡ control.old) × (bindings.new ≡ bindings.old) }
         ensures lender { M.WordMemory.lender memory.new ≡ M.WordMemory.lender memory.old }
     {
-        let r = make_list(
-            &mut self.store,
-            memory,
-            control,
-            bindings,
-            self.allocation.space,
-            to,
-            car,
-            cdr,
-        );
+        let space = self.allocation.space;
+        let store = &mut self.store;
+        let r = make_list(store, memory, control, bindings, space, to, car, cdr);
         self.note(r)
     }
 
@@ -153,15 +146,9 @@ impl Heap {
         ensures stacks { (control.new ≡ control.old) × (bindings.new ≡ bindings.old) }
         ensures lender { M.WordMemory.lender memory.new ≡ M.WordMemory.lender memory.old }
     {
-        let r = make_symbol(
-            &mut self.store,
-            memory,
-            control,
-            bindings,
-            self.allocation.space,
-            to,
-            name,
-        );
+        let space = self.allocation.space;
+        let store = &mut self.store;
+        let r = make_symbol(store, memory, control, bindings, space, to, name);
         self.note(r)
     }
 
@@ -180,16 +167,9 @@ impl Heap {
         ensures stacks { (control.new ≡ control.old) × (bindings.new ≡ bindings.old) }
         ensures lender { M.WordMemory.lender memory.new ≡ M.WordMemory.lender memory.old }
     {
-        let r = make_vector(
-            &mut self.store,
-            memory,
-            control,
-            bindings,
-            self.allocation.space,
-            to,
-            count,
-            fill,
-        );
+        let space = self.allocation.space;
+        let store = &mut self.store;
+        let r = make_vector(store, memory, control, bindings, space, to, count, fill);
         self.note(r)
     }
 
@@ -207,15 +187,9 @@ impl Heap {
         ensures stacks { (control.new ≡ control.old) × (bindings.new ≡ bindings.old) }
         ensures lender { M.WordMemory.lender memory.new ≡ M.WordMemory.lender memory.old }
     {
-        let r = make_string(
-            &mut self.store,
-            memory,
-            control,
-            bindings,
-            self.allocation.space,
-            to,
-            count,
-        );
+        let space = self.allocation.space;
+        let store = &mut self.store;
+        let r = make_string(store, memory, control, bindings, space, to, count);
         self.note(r)
     }
 
@@ -234,16 +208,9 @@ impl Heap {
         ensures stacks { (control.new ≡ control.old) × (bindings.new ≡ bindings.old) }
         ensures lender { M.WordMemory.lender memory.new ≡ M.WordMemory.lender memory.old }
     {
-        let r = make_words(
-            &mut self.store,
-            memory,
-            control,
-            bindings,
-            self.allocation.space,
-            to,
-            count,
-            access,
-        );
+        let space = self.allocation.space;
+        let store = &mut self.store;
+        let r = make_words(store, memory, control, bindings, space, to, count, access);
         self.note(r)
     }
 

@@ -1,6 +1,6 @@
 -- (a) A heap just made shows the empty graph.
 use Rattle.std.proofs.Common.{◌≡◌, ℕ, zero, suc, ◌+◌, ◌-◌, ◌*◌, ◌<◌, ◌≤◌, Bool, true, false, cond, not, ◌&&◌, leb, ◌≢◌, ◌⊎◌, List, [], ◌∷◌, ◌++◌, length, get_or, set, replicate, sym, refl, ap, ◌∙◌, subst, inl, inr, arith}
-use Rattle.std.specs.List.{AllByRecursion as All}
+use Rattle.std.specs.List.{AllByRecursion}
 use Rattle.std.proofs.lemmas.List.{length-replicate, get_or-replicate, get_or_past}
 use Rattle.std.proofs.ByRecursion.{All-get_or}
 use Rattle.std.proofs.lemmas.Bool.{cases_lt, false≢true}
@@ -43,7 +43,7 @@ lawful-empty = record {
   space_known = (omega arith, λ e. omega (arith, e));
 }
 
-pub shows-empty : (ns ws : List ℕ) → length ns ≡ windows → All (λ n. n ≤ 65536) ns → ((κ : Kind) → get_or ns (window κ 0) 0 ≡ get_or ns (window κ 1) 0) → start (fresh_table ns) windows ≤ length ws → Shown 16 nowhere (fresh_machine ns ws) empty_graph
+pub shows-empty : (ns ws : List ℕ) → length ns ≡ windows → AllByRecursion (λ n. n ≤ 65536) ns → ((κ : Kind) → get_or ns (window κ 0) 0 ≡ get_or ns (window κ 1) 0) → start (fresh_table ns) windows ≤ length ws → Shown 16 nowhere (fresh_machine ns ws) empty_graph
 unfolding words_where
 shows-empty ns ws len small pairs long = record {
   frame = record {

@@ -1,6 +1,7 @@
 // What is printed of the registers, and of a refused text.
 
 #![tactic(auto)]
+
 ghost use Rattle.std.specs.Prelude.{◌≡◌, IfOk, string_bytes};
 ghost use Rattle.listing.specs.Listing.{fault_text, listing, register_line, told_text};
 

@@ -2,7 +2,7 @@
 
 use Rattle.std.proofs.Common.{◌≡◌, ℕ, ◌<◌, ◌≤◌, List, [], ◌∷◌, length, get_or, codes, decimal, sym, refl, ap, ◌∙◌, arith}
 use Prim.Native.String.{String}
-use Rattle.std.specs.List.{AllByRecursion as All}
+use Rattle.std.specs.List.{AllByRecursion}
 use Rattle.std.proofs.lemmas.Fmt.{decimal_injective}
 use Rattle.words.specs.declared.literals.Literal.{Literal}
 use Rattle.words.specs.declared.literals.Literal.TheVariants.{Fixnum, Character, Null}
@@ -49,7 +49,7 @@ head-one end f g r t l k h j e =
     let v = value-one f.1 g.1 h j p.0 in
     (λ i. (k i, v i), p.1)
 
-fields-one : (fs gs : Fields) → keys fs ≡ keys gs → All (λ (f : String × Value). SmallValue f.1) fs → All (λ (f : String × Value). SmallValue f.1) gs →
+fields-one : (fs gs : Fields) → keys fs ≡ keys gs → AllByRecursion (λ (f : String × Value). SmallValue f.1) fs → AllByRecursion (λ (f : String × Value). SmallValue f.1) gs →
     fields_text fs ≡ fields_text gs → fs ≡ gs
 fields-one [] [] k h j e = refl
 fields-one [] (g ∷ gs) k h j e = let z : ⊥ = omega (arith, ap length k) in absurd z

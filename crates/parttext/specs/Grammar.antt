@@ -2,7 +2,7 @@
 
 use Rattle.std.specs.Prelude.{◌≡◌, ℕ, List, [], ◌∷◌, map, codes, decimal}
 use Prim.Native.String.{String}
-use Rattle.std.specs.List.{AllByRecursion as All}
+use Rattle.std.specs.List.{AllByRecursion}
 use Rattle.fields.specs.Fields.{field_text, space, spaced}
 use Rattle.numerals.specs.Numbers.{Small}
 use Rattle.words.specs.declared.literals.Literal.{Literal}
@@ -49,7 +49,7 @@ line_text c = field_text (codes "op") (name_of (form_of c).0) space (fields_text
 
 -- Every number of the line has at most nine digits.
 abbrev pub SmallLine : Line → Type 0
-SmallLine c = All (λ f. SmallValue f.1) (form_of c).1
+SmallLine c = AllByRecursion (λ f. SmallValue f.1) (form_of c).1
 
 -- These bytes are the text of the line, and it has no number of more than nine digits.
 abbrev pub Spells : Line → List ℕ → Type 0
