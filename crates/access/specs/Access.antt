@@ -1,5 +1,5 @@
 -- The calls that read and write registers and cells, over machines.
-use Rattle.std.specs.Prelude.{ℕ, ◌+◌, ◌*◌, Bool, true, false, cond, not, ◌&&◌, ◌||◌, List, [], ◌∷◌, map, length, set, is_some, Some, None, Ok, Err, Option, Result, ◌==◌, nat_le, nat_lt}
+use Rattle.std.specs.Prelude.{ℕ, Bool, true, cond, ◌&&◌, List, [], ◌∷◌, is_some, Some, None, Ok, Err, Option, Result, ◌==◌, nat_le, nat_lt}
 use Rattle.words.specs.Literals.{word_of, literal_of}
 use Rattle.words.specs.declared.literals.Literal.{Literal}
 use Rattle.words.specs.declared.literals.Literal.TheVariants.{Fixnum, Character, Null}

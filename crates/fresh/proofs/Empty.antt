@@ -1,12 +1,12 @@
 -- A store just made is in order, and shows the empty state.
-use Rattle.std.proofs.Common.{◌≡◌, ℕ, zero, suc, ◌-◌, ◌<◌, ◌≤◌, true, List, length, get_or, replicate, sum, sym, refl, ◌∙◌, arith}
+use Rattle.std.proofs.Common.{◌≡◌, ℕ, zero, suc, ◌<◌, ◌≤◌, true, List, length, get_or, replicate, sum, sym, refl, ◌∙◌, arith}
 use Rattle.std.specs.List.{AllByRecursion}
 use Rattle.std.proofs.ByRecursion.{All-get_or}
 use Rattle.std.proofs.lemmas.Bool.{ne_eqb}
 use Rattle.kinds.specs.declared.kind.Kind.{Kind}
 use Rattle.graph.specs.Shape.{index}
 use Rattle.graph.proofs.Shape.{index_below}
-use Rattle.layout.specs.Machine.{Machine, windows, window, room, low, now_space}
+use Rattle.layout.specs.Machine.{Machine, windows, window, room, now_space}
 use Rattle.layout.specs.Ordered.{Ordered}
 use Rattle.layout.specs.Fresh.{starts_from, fresh_table, fresh_machine, nowhere}
 use Rattle.layout.proofs.Fresh.{get_or-all, shows-empty}

@@ -1,12 +1,12 @@
 -- An entry of an unboxed object replaced.
-use Rattle.std.proofs.Common.{◌≡◌, ℕ, zero, suc, ◌+◌, ◌-◌, ◌*◌, ◌/◌, ◌%◌, ◌^◌, ◌<◌, ◌≤◌, Bool, true, false, cond, ◌≢◌, ◌⊎◌, List, [], ◌∷◌, map, length, get_or, set, sym, refl, ap, ◌∙◌, inl, inr, arith}
+use Rattle.std.proofs.Common.{◌≡◌, ℕ, ◌+◌, ◌/◌, ◌^◌, ◌<◌, false, ◌≢◌, length, set, sym, refl, ap, ◌∙◌, inl, inr, arith}
 use Rattle.std.proofs.lemmas.List.{length-set, length-map, get_or-set_same, get_or-set_other, map-set}
-use Rattle.std.proofs.lemmas.Bool.{cases_eq, true≢false}
-use Rattle.words.specs.Packing.{bits_of, per_word, packed_word, packed_count}
+use Rattle.std.proofs.lemmas.Bool.{cases_eq}
+use Rattle.words.specs.Packing.{bits_of, per_word, packed_word}
 use Rattle.words.proofs.Packing.{packed-other}
-use Rattle.graph.specs.Graph.{Immediate, fixnum, character, null, trap, Value, plain, ref, Kind, uvector, string, bvector, symbol, list, Object, celled}
-use Rattle.graph.specs.Shape.{boxed, heads, size, entries, entry_of, entry_value, Want, exact, value, head_word, want, Shaped}
-use Rattle.graph.proofs.Shape.{want-body, want-head, want-cases, size-celled}
+use Rattle.graph.specs.Graph.{Immediate, fixnum, character, trap, plain, Kind, uvector, string, bvector, symbol, list, Object, celled}
+use Rattle.graph.specs.Shape.{boxed, heads, entries, entry_of, entry_value, exact, want, Shaped}
+use Rattle.graph.proofs.Shape.{want-body, want-head, want-cases}
 
 pub entry-back : (κ : Kind) (e : ℕ) → entry_of (entry_value κ e) ≡ e
 entry-back uvector e = refl

@@ -1,11 +1,11 @@
 -- Every change that a call makes keeps a graph lawful.
-use Rattle.std.proofs.Common.{◌≡◌, ℕ, zero, suc, ◌+◌, ◌<◌, ◌≤◌, Bool, true, false, ◌≢◌, ◌⊎◌, List, [], ◌∷◌, ◌++◌, length, get_or, set, sym, refl, ap, ◌∙◌, inl, inr, arith}
+use Rattle.std.proofs.Common.{◌≡◌, ℕ, zero, suc, ◌<◌, ◌≤◌, true, false, ◌≢◌, ◌⊎◌, List, [], ◌∷◌, ◌++◌, length, get_or, set, sym, refl, ap, ◌∙◌, inl, inr, arith}
 use Rattle.std.proofs.lemmas.List.{length-set, length_push, get_or-set_same, get_or-set_other, get_or_append_left, get_or_at, get_or_past}
 use Rattle.std.proofs.lemmas.Bool.{cases_eq, cases_lt}
 use Rattle.kinds.specs.declared.kind.Class.{Class}
 use Rattle.kinds.specs.declared.kind.Class.TheVariants.{Pointer}
 use Rattle.kinds.specs.Kinds.{takes, is_unset}
-use Rattle.graph.specs.Graph.{Immediate, fixnum, character, null, trap, Value, plain, ref, Kind, Object, Graph, nothing, object, celled, put_cell, put_register, add_object}
+use Rattle.graph.specs.Graph.{trap, Value, plain, ref, Kind, Object, Graph, nothing, object, celled, put_cell, put_register, add_object}
 use Rattle.graph.specs.Shape.{boxed}
 use Rattle.graph.specs.Lawful.{class_of, Known, holds, Lawful}
 

@@ -1,11 +1,11 @@
 -- What holds of every kind.
-use Rattle.std.proofs.Common.{◌≡◌, ℕ, zero, suc, ◌+◌, ◌-◌, ◌*◌, ◌<◌, ◌≤◌, Bool, true, false, cond, eqb, ltb, ◌≢◌, ◌⊎◌, List, [], ◌∷◌, map, length, get_or, set, sym, refl, ap, ◌∙◌, inl, inr, arith}
+use Rattle.std.proofs.Common.{◌≡◌, ℕ, zero, suc, ◌+◌, ◌-◌, ◌<◌, true, false, cond, ◌≢◌, ◌⊎◌, length, get_or, sym, refl, ap, ◌∙◌, inl, inr, arith}
 use Rattle.std.proofs.lemmas.List.{length-set, get_or-set_same, get_or-set_other}
-use Rattle.std.proofs.lemmas.Bool.{cases_eq, cases_lt, cases_Bool, lt-ltb, le-ltb, true≢false}
-use Rattle.graph.specs.Graph.{Immediate, fixnum, character, null, trap, Value, plain, ref, Kind, uvector, string, bvector, symbol, list, Object, celled}
+use Rattle.std.proofs.lemmas.Bool.{cases_lt, cases_Bool, lt-ltb, le-ltb, true≢false}
+use Rattle.graph.specs.Graph.{trap, Value, plain, Kind, uvector, string, bvector, symbol, list, Object, celled}
 use Rattle.words.specs.Words.{words_of, header_word}
-use Rattle.words.specs.Packing.{packed_word, packed_count}
-use Rattle.graph.specs.Shape.{entries, code, index, kinds, boxed, heads, size, Want, exact, value, head_word, body_want, want, size_by, Counted, Shaped}
+use Rattle.words.specs.Packing.{packed_word}
+use Rattle.graph.specs.Shape.{entries, code, index, kinds, boxed, heads, size, exact, value, head_word, body_want, want, size_by, Counted, Shaped}
 
 pub code-pointer : (κ : Kind) → (1 < code κ) × (code κ < 15)
 code-pointer uvector = omega arith

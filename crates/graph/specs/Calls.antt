@@ -1,17 +1,16 @@
 -- What each call does: its refusals in the order in which they are tested, its answer, and the state after.
-use Rattle.std.specs.Prelude.{◌≡◌, ℕ, ◌+◌, ◌^◌, ◌<◌, ◌≤◌, Bool, true, false, cond, not, ◌&&◌, ◌||◌, List, [], ◌∷◌, ◌++◌, map, length, get_or, replicate, Ok, Err, Result, ◌==◌, nat_le, nat_lt, slice_index_or}
+use Rattle.std.specs.Prelude.{ℕ, ◌+◌, ◌^◌, Bool, true, false, cond, not, ◌&&◌, ◌||◌, List, [], ◌∷◌, ◌++◌, map, length, get_or, replicate, Ok, Err, Result, ◌==◌, nat_le, nat_lt, slice_index_or}
 use Rattle.words.specs.Words.{data_of, signed}
 use Rattle.words.specs.Packing.{bits_of}
 use Rattle.words.specs.Literals.{literal_range}
 use Rattle.words.specs.declared.literals.Literal.{Literal}
 use Rattle.words.specs.declared.literals.Literal.TheVariants.{Fixnum, Character, Null}
-use Rattle.kinds.specs.declared.kind.Class.{Class}
 use Rattle.kinds.specs.Kinds.{takes, is_unset, is_a}
 use Rattle.answers.specs.declared.Told.{Told}
 use Rattle.answers.specs.declared.Told.TheVariants.{Fixnum as told_fixnum, Character as told_character, Null as told_null, Object as told_object}
 use Rattle.answers.specs.declared.Refusal.{Refusal}
 use Rattle.answers.specs.declared.Refusal.TheVariants.{Unknown, WrongKind, OutOfBounds, Unset, Unfit, Frozen, DynamicInReadOnly, NoRoom, Short}
-use Rattle.graph.specs.Graph.{Immediate, fixnum, character, null, trap, Value, plain, ref, Kind, uvector, string, bvector, symbol, list, Object, Graph, nothing, object, put_cell, put_register, add_object}
+use Rattle.graph.specs.Graph.{fixnum, character, null, trap, Value, plain, ref, Kind, uvector, string, bvector, symbol, list, Object, Graph, nothing, object, put_cell, put_register, add_object}
 use Rattle.graph.specs.Shape.{code, index, boxed, size, entry_of}
 use Rattle.graph.specs.Lawful.{class_of}
 

@@ -1,5 +1,5 @@
 -- The object graph: values, objects, registers, stacks.
-use Rattle.std.specs.Prelude.{◌≡◌, ℕ, zero, suc, ◌+◌, ◌*◌, ◌<◌, ◌≤◌, Bool, true, false, cond, List, [], ◌∷◌, ◌++◌, length, slice_index_or, slice_set}
+use Rattle.std.specs.Prelude.{◌≡◌, ℕ, Bool, false, List, [], ◌∷◌, ◌++◌, slice_index_or, slice_set}
 pub use Rattle.kinds.specs.declared.kind.Kind.{Kind}
 pub use Rattle.kinds.specs.declared.kind.Kind.TheVariants.{UVector as uvector, String as string, BVector as bvector, Symbol as symbol, List as list}
 

@@ -4,7 +4,7 @@ use Rattle.kinds.specs.declared.kind.Class.{Class}
 use Rattle.kinds.specs.declared.kind.Class.TheVariants.{Fixnum, Character, Null, Unset, Pointer}
 use Rattle.kinds.specs.Kinds.{takes, lacks, is_unset}
 use Rattle.graph.specs.Graph.{Immediate, fixnum, character, null, trap, Value, plain, ref, Kind, Object, Graph, nothing}
-use Rattle.graph.specs.Shape.{boxed, Shaped}
+use Rattle.graph.specs.Shape.{boxed}
 
 -- What a value is to a cell that may take it.
 abbrev pub immediate_class : Immediate → Class

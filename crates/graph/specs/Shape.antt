@@ -1,7 +1,7 @@
 -- What a kind contributes: type code, place in the table, boxedness, size and the words that come before the cells.
-use Rattle.std.specs.Prelude.{◌≡◌, ℕ, zero, suc, ◌+◌, ◌-◌, ◌*◌, ◌^◌, ◌<◌, ◌≤◌, Bool, true, false, cond, ◌≢◌, List, [], ◌∷◌, map, length, ◌==◌, nat_lt, slice_index, slice_index_or}
+use Rattle.std.specs.Prelude.{◌≡◌, ℕ, ◌+◌, ◌-◌, ◌^◌, ◌<◌, true, false, cond, ◌≢◌, List, map, length, ◌==◌, nat_lt, slice_index, slice_index_or}
 pub use Rattle.kinds.specs.Kinds.{code, index, kinds, boxed, heads, size_by, accessible}
-use Rattle.words.specs.Words.{fixnum_word, character_word, null_word, trap_word, header_word, entries_word, words_of}
+use Rattle.words.specs.Words.{fixnum_word, character_word, null_word, trap_word, header_word, entries_word}
 use Rattle.words.specs.Packing.{bits_of, packed_word, packed_count}
 use Rattle.graph.specs.Graph.{Immediate, fixnum, character, null, trap, Value, plain, ref, Kind, uvector, string, bvector, symbol, list, Object}
 

@@ -1,32 +1,27 @@
 -- Putting, reading, telling and comparing answer as the graph does.
-use Rattle.std.proofs.Common.{◌≡◌, ℕ, zero, suc, ◌+◌, ◌-◌, ◌*◌, ◌/◌, ◌%◌, ◌<◌, ◌≤◌, Bool, true, false, cond, not, ◌&&◌, ◌||◌, eqb, ltb, leb, ◌≢◌, ◌⊎◌, List, [], ◌∷◌, length, get_or, is_ok, Some, None, Ok, Err, Result, sym, refl, ap, ◌∙◌, inl, inr, arith}
+use Rattle.std.proofs.Common.{◌≡◌, ℕ, ◌<◌, Bool, true, false, not, ◌&&◌, ◌||◌, ltb, leb, List, [], ◌∷◌, length, Ok, Err, Result, sym, refl, ◌∙◌, inl, inr, arith}
 use Rattle.std.proofs.lemmas.Bool.Decides.{nat_tests}
-use Rattle.std.proofs.lemmas.Bool.{cases_eq, cases_Bool, cases_lt, eq-eqb, ne_eqb, le-leb, lt-leb, leb-false, true≢false}
-use Rattle.words.specs.Words.{signed, fixnum_word, character_word, null_word}
-use Rattle.words.specs.Literals.{literal_range, literal_word, word_of, literal_of}
+use Rattle.std.proofs.lemmas.Bool.{cases_Bool, leb-false, true≢false}
+use Rattle.words.specs.Literals.{literal_range, literal_word, word_of}
 use Rattle.words.specs.declared.literals.Literal.{Literal}
 use Rattle.words.specs.declared.literals.Literal.TheVariants.{Fixnum, Character, Null}
-use Rattle.words.proofs.Coding.{data-fits, signed_range, data-signed}
-use Rattle.words.proofs.LiteralWords.{literal-of-word}
-use Rattle.kinds.specs.Kinds.{is_unset, code}
-use Rattle.answers.specs.declared.Told.{Told}
-use Rattle.answers.specs.declared.Told.TheVariants.{Fixnum as told_fixnum, Character as told_character, Null as told_null, Object as told_object}
+use Rattle.words.proofs.Coding.{data-fits}
+use Rattle.kinds.specs.Kinds.{is_unset}
 use Rattle.answers.specs.declared.Refusal.{Refusal}
 use Rattle.answers.specs.declared.Refusal.TheVariants.{Unknown, WrongKind, OutOfBounds, Unset, Short}
-use Rattle.graph.specs.Graph.{Immediate, fixnum, character, null, trap, Value, plain, ref, Kind, Object, Graph, object, put_register}
-use Rattle.graph.specs.Lawful.{class_of, Lawful}
-use Rattle.graph.specs.Calls.{State, Call, judged, register, objects_of, with_graph, literal_value, put, read, tell, told, same, alike, target, cell, is_object}
-use Rattle.layout.specs.Machine.{Table, Machine, register_at, with_register, dirty}
+use Rattle.graph.specs.Graph.{Value, plain, ref, Object, object, put_register}
+use Rattle.graph.specs.Lawful.{class_of}
+use Rattle.graph.specs.Calls.{State, register, objects_of, with_graph, literal_value, put, read, target, cell, is_object}
+use Rattle.layout.specs.Machine.{Machine, register_at, with_register, dirty}
 use Rattle.layout.specs.Places.{Places, Means}
-use Rattle.layout.specs.Shows.{Shown}
-use Rattle.layout.proofs.Meaning.{means-ref, shows-put, shows-register}
-use Rattle.store.specs.Flow.{after, admission}
+use Rattle.layout.proofs.Meaning.{shows-put, shows-register}
+use Rattle.store.specs.Flow.{after}
 use Rattle.objects.specs.declared.opened.Opened.{Opened}
 use Rattle.objects.specs.Open.{opened, opened_with}
 use Rattle.cells.specs.Cells.{loaded}
-use Rattle.access.specs.Access.{put_word, put_done, read_from, read_done, told_as, told_word, tell_done, same_done}
+use Rattle.access.specs.Access.{put_word, put_done, read_from, read_done}
 use Rattle.promises.specs.Promise.{Depicts, Answers, short}
-use Rattle.laws.proofs.Admission.{Did, did-next, did-done, admission-did, turned-one, enough}
+use Rattle.laws.proofs.Admission.{Did, did-next, did-done, admission-did, turned-one}
 use Rattle.laws.proofs.Opening.{opened-none, opened-there}
 use Rattle.laws.proofs.Loading.{Loads, loaded-there}
 

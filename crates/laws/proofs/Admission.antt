@@ -1,15 +1,14 @@
 -- What every call asks first, of machines and of graphs.
-use Rattle.std.proofs.Common.{◌≡◌, ℕ, suc, ◌<◌, ◌≤◌, Bool, true, false, cond, not, ltb, leb, ◌⊎◌, List, [], ◌∷◌, length, is_ok, Some, None, Ok, Err, Option, Result, sym, refl, ap, ◌∙◌, subst, inl, inr, arith}
+use Rattle.std.proofs.Common.{◌≡◌, ℕ, Bool, true, false, cond, not, ltb, leb, List, [], ◌∷◌, length, is_ok, Some, None, Ok, Err, Option, Result, sym, refl, ap, subst, arith}
 use Rattle.std.proofs.lemmas.Bool.Decides.{nat_tests}
-use Rattle.std.proofs.lemmas.Bool.{cases_Bool}
 use Rattle.answers.specs.declared.Place.{Place}
 use Rattle.answers.specs.declared.Refusal.{Refusal}
 use Rattle.answers.specs.declared.Refusal.TheVariants.{Unknown, Short, Foreign}
-use Rattle.graph.specs.Calls.{State, Call, judged}
+use Rattle.graph.specs.Calls.{State, judged}
 use Rattle.layout.specs.Machine.{Machine}
 use Rattle.store.specs.Checks.{admitted, long_enough}
 use Rattle.store.specs.Flow.{after, admission}
-use Rattle.promises.specs.Promise.{Depicts, Answers, short, Stays, Sticks}
+use Rattle.promises.specs.Promise.{Depicts, short, Stays, Sticks}
 
 -- A step answers as the graph does, and leaves what shows the graph after.
 abbrev pub Did : {A : Type 0} → List (Bool × Refusal) → A → State → State → Machine × Result A Refusal → Type 0

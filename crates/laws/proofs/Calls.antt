@@ -1,5 +1,5 @@
 -- What each call promises, from what its step does.
-use Rattle.std.proofs.Common.{◌≡◌, ℕ, suc, ◌<◌, ◌≤◌, Bool, true, false, cond, ◌&&◌, eqb, leb, List, [], ◌∷◌, is_some, Ok, Result, sym, refl, ap, ◌∙◌, subst}
+use Rattle.std.proofs.Common.{◌≡◌, ℕ, ◌<◌, Bool, true, false, ◌&&◌, eqb, leb, is_some, Ok, Result, refl}
 use Rattle.words.specs.declared.literals.Literal.{Literal}
 use Rattle.words.specs.Literals.{word_of}
 use Rattle.answers.specs.declared.Told.{Told}

@@ -1,18 +1,18 @@
 -- What a cell or entry can take, and whether its object is frozen, in memory and in the graph.
-use Rattle.std.proofs.Common.{◌≡◌, ℕ, zero, suc, ◌+◌, ◌-◌, ◌*◌, ◌/◌, ◌%◌, ◌^◌, ◌<◌, ◌≤◌, Bool, true, false, cond, not, ◌&&◌, ◌||◌, eqb, ltb, leb, ◌≢◌, ◌⊎◌, List, length, get_or, Some, None, sym, refl, ap, ◌∙◌, inl, inr, arith}
+use Rattle.std.proofs.Common.{◌≡◌, ℕ, ◌%◌, ◌^◌, ◌<◌, Bool, true, false, ◌&&◌, ◌||◌, eqb, ltb, List, length, get_or, Some, sym, refl, ap, ◌∙◌, inl, inr, arith}
 use Rattle.std.proofs.lemmas.Bool.Decides.{nat_tests}
-use Rattle.std.proofs.lemmas.Bool.{cases_eq, cases_Bool, eq-eqb, ne_eqb, true≢false}
-use Rattle.words.specs.Words.{type_of, space_of, pointer_of, count_of, words_of, fixnum_word, character_word}
+use Rattle.std.proofs.lemmas.Bool.{cases_eq, eq-eqb, ne_eqb, true≢false}
+use Rattle.words.specs.Words.{space_of, pointer_of, words_of, character_word}
 use Rattle.words.specs.Packing.{bits_of}
 use Rattle.words.proofs.Coding.{type_of-fixnum, type_of-character, count_of-fixnum}
 use Rattle.kinds.specs.declared.kind.Class.{Class}
 use Rattle.kinds.specs.Kinds.{index, boxed, takes, word_class, entry_number}
-use Rattle.graph.specs.Graph.{Immediate, fixnum, character, null, trap, Value, plain, ref, Kind, uvector, string, bvector, symbol, list, Object, Graph, nothing, object}
-use Rattle.graph.specs.Shape.{entry_of, entry_value, Shaped}
+use Rattle.graph.specs.Graph.{fixnum, character, null, trap, Value, plain, ref, Kind, uvector, string, bvector, symbol, list, Object, Graph, object}
+use Rattle.graph.specs.Shape.{entry_of, entry_value}
 use Rattle.graph.specs.Lawful.{class_of}
 use Rattle.graph.specs.Calls.{fits}
 use Rattle.layout.specs.Machine.{Table, Machine, now_space}
-use Rattle.layout.specs.Places.{Places, space_now, Means}
+use Rattle.layout.specs.Places.{Places, Means}
 use Rattle.layout.specs.Shows.{Shown}
 use Rattle.layout.proofs.Meaning.{means-ref}
 use Rattle.layout.proofs.Windows.{now-below}

@@ -1,25 +1,22 @@
 -- Freezing, and setting the allocation space, answer as the graph does.
-use Rattle.std.proofs.Common.{◌≡◌, ℕ, zero, suc, ◌+◌, ◌<◌, ◌≤◌, Bool, true, false, cond, not, ◌&&◌, ◌||◌, eqb, ltb, leb, ◌≢◌, ◌⊎◌, List, [], ◌∷◌, map, length, get_or, is_some, Some, None, Ok, Err, Result, sym, refl, ap, ◌∙◌, inl, inr, arith}
+use Rattle.std.proofs.Common.{◌≡◌, ℕ, zero, suc, ◌+◌, ◌<◌, ◌≤◌, Bool, true, false, cond, not, ◌||◌, eqb, ltb, ◌≢◌, List, [], ◌∷◌, map, length, get_or, is_some, Some, None, Ok, sym, refl, ap, ◌∙◌, arith}
 use Rattle.std.proofs.lemmas.List.{length-map}
-use Rattle.std.proofs.lemmas.Bool.{cases_eq, eq-eqb, ne_eqb, lt-ltb, true≢false}
-use Rattle.answers.specs.declared.Refusal.{Refusal}
+use Rattle.std.proofs.lemmas.Bool.{eq-eqb, ne_eqb, lt-ltb}
 use Rattle.kinds.specs.declared.kind.Class.TheVariants.{Pointer}
-use Rattle.kinds.specs.Kinds.{is_unset}
-use Rattle.graph.specs.Graph.{Value, plain, ref, trap, Kind, uvector, string, bvector, symbol, list, Object, Graph, nothing, object}
-use Rattle.graph.specs.Shape.{index, size, want, Shaped}
-use Rattle.graph.specs.Lawful.{class_of, Known, holds, Lawful}
-use Rattle.graph.specs.Calls.{State, with_graph, frozen_object, frozen_all, freeze, is_space, with_space, set_space}
+use Rattle.graph.specs.Graph.{Value, plain, ref, trap, Kind, uvector, string, bvector, symbol, list, Object, Graph, nothing}
+use Rattle.graph.specs.Shape.{index, want, Shaped}
+use Rattle.graph.specs.Lawful.{class_of, Known, Lawful}
+use Rattle.graph.specs.Calls.{with_graph, frozen_object, frozen_all, freeze, is_space, with_space, set_space}
 use Rattle.graph.proofs.Lawful.{known_more}
-use Rattle.layout.specs.Machine.{Table, Machine, Frame, windows, window, start, low, dirty}
-use Rattle.layout.specs.Places.{Places, new_window, new_address, old_address, space_now, Fits, Map}
-use Rattle.layout.specs.Shows.{Holds, Rules, Steady, Filled, Counts, Shown}
-use Rattle.layout.proofs.Windows.{now-below}
+use Rattle.layout.specs.Machine.{Table, Machine, Frame, window, low, dirty}
+use Rattle.layout.specs.Places.{Places, new_window, space_now, Map}
+use Rattle.layout.specs.Shows.{Holds, Rules, Shown}
 use Rattle.access.specs.Access.{read_only_lows, with_frozen, freeze_done, with_space as in_space, space_done}
 use Rattle.std.proofs.lemmas.Bool.Decides.{nat_tests}
 use Rattle.store.specs.declared.space.Space.TheVariants.{Dynamic, Static, ReadOnly}
 use Rattle.store.specs.Spaces.{space_at}
-use Rattle.promises.specs.Promise.{Depicts, Answers, short}
-use Rattle.laws.proofs.Admission.{Did, did-done, admission-did}
+use Rattle.promises.specs.Promise.{Answers, short}
+use Rattle.laws.proofs.Admission.{did-done, admission-did}
 
 frozen-at : (os : List Object) (i : ℕ) → get_or (map frozen_object os) i nothing ≡ frozen_object (get_or os i nothing)
 frozen-at [] i = refl

@@ -1,34 +1,33 @@
 -- What is read from a cell or an entry means what the graph has there.
-use Rattle.std.proofs.Common.{◌≡◌, ℕ, zero, suc, ◌+◌, ◌-◌, ◌*◌, ◌/◌, ◌%◌, ◌^◌, ◌<◌, ◌≤◌, Bool, true, false, cond, not, ◌&&◌, ◌||◌, eqb, ltb, leb, ◌≢◌, ◌⊎◌, List, length, get_or, Some, None, Ok, Err, Option, Result, sym, refl, ap, ◌∙◌, inl, inr, arith}
+use Rattle.std.proofs.Common.{◌≡◌, ℕ, zero, suc, ◌+◌, ◌/◌, ◌%◌, ◌^◌, ◌<◌, ◌≤◌, Bool, true, false, not, ◌&&◌, ◌||◌, eqb, ◌⊎◌, List, length, get_or, Some, Ok, Err, Result, sym, refl, ap, ◌∙◌, inl, inr, arith}
 use Rattle.std.proofs.lemmas.Bool.Decides.{nat_tests}
-use Rattle.std.proofs.lemmas.Bool.{cases_eq, cases_Bool, eq-eqb, ne_eqb, lt-ltb, le-ltb, true≢false}
-use Rattle.words.specs.Words.{type_of, space_of, pointer_of, fixnum_word, character_word, count_of}
+use Rattle.std.proofs.lemmas.Bool.{cases_eq, cases_Bool, eq-eqb, ne_eqb, true≢false}
+use Rattle.words.specs.Words.{space_of, count_of}
 use Rattle.words.specs.Packing.{bits_of, per_word, packed_word, entry_of}
 use Rattle.words.proofs.Packing.{packed-in, packed-entry}
 use Rattle.kinds.specs.declared.kind.Class.{Class}
 use Rattle.kinds.specs.declared.kind.Class.TheVariants.{Fixnum, Character, Null, Unset, Pointer}
-use Rattle.kinds.specs.Kinds.{code, kind_of, least, boxed, heads, takes, lacks, is_unset, entry_word, word_class, accessible}
+use Rattle.kinds.specs.Kinds.{least, boxed, heads, takes, lacks, is_unset, entry_word, word_class, accessible}
 use Rattle.answers.specs.declared.Refusal.{Refusal}
 use Rattle.answers.specs.declared.Refusal.TheVariants.{Unset as no_value}
-use Rattle.graph.specs.Graph.{Immediate, fixnum, character, null, trap, Value, plain, ref, Kind, uvector, string, bvector, symbol, list, Object, Graph, nothing, object}
-use Rattle.graph.specs.Shape.{size, entries, entry_value, immediate_word, Small, Want, exact, value, want, Shaped}
-use Rattle.graph.specs.Lawful.{class_of, holds, Lawful}
+use Rattle.graph.specs.Graph.{fixnum, character, null, trap, Value, plain, ref, Kind, uvector, string, bvector, symbol, list, Object, Graph, object}
+use Rattle.graph.specs.Shape.{size, entries, entry_value}
+use Rattle.graph.specs.Lawful.{class_of, holds}
 use Rattle.graph.specs.Calls.{is_dynamic}
 use Rattle.graph.proofs.Shape.{want-cell, size-boxed}
 use Rattle.graph.proofs.Entries.{want_entry}
-use Rattle.layout.specs.Machine.{Table, Machine, Frame, windows, window, start, low, high, dirty, old_space, now_space, word_at}
-use Rattle.layout.specs.Places.{Places, space_now, new_window, new_address, Means, Fits, Map}
+use Rattle.layout.specs.Machine.{Table, Machine, window, dirty, old_space, now_space, word_at}
+use Rattle.layout.specs.Places.{Places, space_now, new_window, new_address, Means}
 use Rattle.layout.specs.Shows.{Shown, Steady}
 use Rattle.layout.proofs.Meaning.{means-ref}
 use Rattle.layout.proofs.Windows.{new-below, space-new, now-below}
 use Rattle.layout.proofs.Reading.{leads}
-use Rattle.layout.proofs.Entries.{entry_word as entry_place_of}
-use Rattle.store.specs.Checks.{in_use, reaches, dynamic_word}
+use Rattle.store.specs.Checks.{in_use, reaches}
 use Rattle.objects.specs.declared.opened.Opened.{Opened}
-use Rattle.objects.specs.Open.{next, fetched, located, opened_with}
+use Rattle.objects.specs.Open.{fetched, located, opened_with}
 use Rattle.cells.specs.Cells.{cell_place, entry_place, leads_on, believed, loaded}
 use Rattle.laws.proofs.Registers.{kind-code, word-class, word-dynamic}
-use Rattle.laws.proofs.Opening.{least_size, in-use-part, fetched-there, located-there, kind-there, word-there, counted-few}
+use Rattle.laws.proofs.Opening.{least_size, in-use-part, fetched-there, located-there, word-there}
 
 -- a cell that may hold nothing yet has no value only where its kind starts so
 unset-lacks : (κ : Kind) (k : ℕ) (c : Class) → holds κ k c ≡ true → is_unset c ≡ true → lacks κ k ≡ true

@@ -1,18 +1,17 @@
 -- A word that means an object opens it.
-use Rattle.std.proofs.Common.{◌≡◌, ℕ, zero, suc, ◌+◌, ◌-◌, ◌*◌, ◌/◌, ◌%◌, ◌<◌, ◌≤◌, Bool, true, false, cond, not, ◌&&◌, ◌||◌, eqb, ltb, leb, ◌≢◌, ◌⊎◌, List, length, get_or, Some, None, Ok, Err, Result, sym, refl, ap, ◌∙◌, inl, inr, arith}
+use Rattle.std.proofs.Common.{◌≡◌, ℕ, zero, suc, ◌+◌, ◌-◌, ◌/◌, ◌%◌, ◌<◌, ◌≤◌, Bool, true, false, cond, ◌&&◌, ◌||◌, eqb, ltb, leb, ◌⊎◌, List, length, get_or, None, Ok, Err, sym, refl, inl, inr, arith}
 use Rattle.std.proofs.lemmas.Bool.Decides.{nat_tests}
 use Rattle.std.proofs.lemmas.Bool.{cases_eq, cases_Bool, eq-eqb, ne_eqb, lt-ltb, le-ltb, true≢false}
-use Rattle.words.specs.Words.{type_of, space_of, pointer_of, header_word, entries_word, access_of, count_of}
+use Rattle.words.specs.Words.{type_of, space_of, pointer_of, header_word, entries_word}
 use Rattle.words.specs.Packing.{packed_count}
 use Rattle.words.proofs.Coding.{access_of-entries, count_of-entries}
-use Rattle.kinds.specs.Kinds.{code, kind_of, least, boxed, heads, size_by, accessible}
-use Rattle.answers.specs.declared.Refusal.{Refusal}
+use Rattle.kinds.specs.Kinds.{kind_of, least, boxed, heads, size_by, accessible}
 use Rattle.answers.specs.declared.Refusal.TheVariants.{WrongKind}
-use Rattle.graph.specs.Graph.{Immediate, trap, Value, plain, ref, Kind, uvector, string, bvector, symbol, list, Object, Graph, nothing, object}
-use Rattle.graph.specs.Shape.{size, head_word, Want, exact, value, want, Counted, Shaped}
-use Rattle.graph.proofs.Shape.{want-head, size-boxed, unboxed-heads}
-use Rattle.layout.specs.Machine.{Table, Machine, Frame, windows, window, start, room, low, high, dirty, word_at}
-use Rattle.layout.specs.Places.{Places, space_now, new_window, new_address, Means, Fits, Map}
+use Rattle.graph.specs.Graph.{Immediate, plain, ref, Kind, uvector, string, bvector, symbol, list, Object, Graph, object}
+use Rattle.graph.specs.Shape.{size, head_word, want, Counted, Shaped}
+use Rattle.graph.proofs.Shape.{want-head, size-boxed}
+use Rattle.layout.specs.Machine.{Table, Machine, windows, window, room, low, high, dirty, word_at}
+use Rattle.layout.specs.Places.{Places, new_window, new_address, Means, Fits}
 use Rattle.layout.specs.Shows.{Shown}
 use Rattle.layout.proofs.Meaning.{means-ref}
 use Rattle.layout.proofs.Windows.{new-below, new_in}
@@ -20,8 +19,7 @@ use Rattle.layout.proofs.Reading.{leads}
 use Rattle.layout.proofs.Barrier.{shows-size}
 use Rattle.layout.proofs.Same.{immediate-low}
 use Rattle.store.specs.Checks.{in_use}
-use Rattle.objects.specs.declared.opened.Opened.{Opened}
-use Rattle.objects.specs.Open.{next, fetched, headed, boxed_cells, packed_cells, measured, located, extent, opened_with, opened_as, opened}
+use Rattle.objects.specs.Open.{fetched, headed, measured, located, extent, opened_with, opened}
 use Rattle.laws.proofs.Registers.{kind-code}
 
 -- what every kind has

@@ -1,10 +1,10 @@
 -- From what a step does to a machine to what a call promises.
-use Rattle.std.proofs.Common.{◌≡◌, ℕ, suc, ◌<◌, ◌≤◌, Bool, true, false, cond, List, [], ◌∷◌, is_ok, Some, None, Ok, Err, Option, Result, sym, refl, ap, ◌∙◌, subst, arith}
+use Rattle.std.proofs.Common.{◌≡◌, ℕ, Bool, true, false, cond, List, [], ◌∷◌, is_ok, None, Ok, Err, Result, sym, refl, ap, ◌∙◌, subst, arith}
 use Rattle.answers.specs.declared.Refusal.{Refusal}
 use Rattle.answers.specs.Numbers.{place_of}
 use Rattle.graph.specs.Calls.{State, Call, judged, outcome}
 use Rattle.layout.specs.Machine.{Machine}
-use Rattle.promises.specs.Promise.{Depicts, Answers, Within, Stays, noted, noted_by, Keeps, Sticks, Promised}
+use Rattle.promises.specs.Promise.{Depicts, Answers, Stays, noted, noted_by, Keeps, Sticks, Promised}
 
 -- No refusal of the graph names a foreign word.
 abbrev pub Plain : List (Bool × Refusal) → Type 0

@@ -1,20 +1,20 @@
 -- What a register's word tells of the value that it means.
-use Rattle.std.proofs.Common.{◌≡◌, ℕ, suc, ◌+◌, ◌*◌, ◌/◌, ◌%◌, ◌<◌, ◌≤◌, Bool, true, false, cond, not, ◌&&◌, eqb, ltb, leb, ◌≢◌, ◌⊎◌, length, get_or, Some, None, sym, refl, ap, ◌∙◌, inl, inr, arith}
+use Rattle.std.proofs.Common.{◌≡◌, ℕ, ◌/◌, ◌<◌, true, false, eqb, ltb, ◌≢◌, Some, refl, inl, inr, arith}
 use Rattle.std.proofs.lemmas.Bool.Decides.{nat_tests}
-use Rattle.std.proofs.lemmas.Bool.{cases_eq, cases_Bool, eq-eqb, ne_eqb}
-use Rattle.words.specs.Words.{type_of, space_of, pointer_of, aligned, pointer_word, fixnum_word, character_word, null_word, trap_word}
-use Rattle.words.proofs.Coding.{type_of-pointer, space_of-pointer, type_of-fixnum, type_of-character, aligned-pointer}
+use Rattle.std.proofs.lemmas.Bool.{cases_eq, eq-eqb, ne_eqb}
+use Rattle.words.specs.Words.{type_of, pointer_word, character_word, null_word, trap_word}
+use Rattle.words.proofs.Coding.{type_of-pointer, type_of-fixnum, type_of-character, aligned-pointer}
 use Rattle.kinds.specs.declared.kind.Class.TheVariants.{Pointer}
 use Rattle.kinds.specs.Kinds.{code, kind_of, word_class}
 use Rattle.graph.proofs.Shape.{code-pointer}
-use Rattle.graph.specs.Graph.{Immediate, fixnum, character, null, trap, Value, plain, ref, Kind, uvector, string, bvector, symbol, list, Object, Graph, nothing, object}
+use Rattle.graph.specs.Graph.{Immediate, fixnum, character, null, trap, Value, plain, ref, Kind, uvector, string, bvector, symbol, list, Graph}
 use Rattle.graph.specs.Shape.{Small, immediate_word}
 use Rattle.graph.specs.Lawful.{class_of, immediate_class}
 use Rattle.graph.specs.Calls.{is_dynamic}
-use Rattle.layout.specs.Machine.{Table, Machine, Frame, now_space, register_at}
-use Rattle.layout.specs.Places.{Places, space_now, Means, Map}
-use Rattle.layout.specs.Shows.{Shown, Shows}
-use Rattle.layout.proofs.Meaning.{means-ref, shows-register}
+use Rattle.layout.specs.Machine.{Machine, now_space}
+use Rattle.layout.specs.Places.{Places, space_now, Means}
+use Rattle.layout.specs.Shows.{Shown}
+use Rattle.layout.proofs.Meaning.{means-ref}
 use Rattle.layout.proofs.Windows.{space-below, new-narrow, now-below}
 use Rattle.store.specs.Checks.{dynamic_word}
 use Rattle.layout.proofs.Reading.{leads}

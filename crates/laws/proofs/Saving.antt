@@ -1,19 +1,18 @@
 -- A cell or entry that is written holds what the graph has there then.
-use Rattle.std.proofs.Common.{◌≡◌, ℕ, zero, suc, ◌+◌, ◌-◌, ◌*◌, ◌/◌, ◌%◌, ◌^◌, ◌<◌, ◌≤◌, Bool, true, false, cond, not, ◌&&◌, ◌||◌, eqb, ltb, leb, ◌≢◌, ◌⊎◌, List, length, get_or, set, Ok, Err, Result, sym, refl, ap, ◌∙◌, inl, inr, mod-eq_of_lt, arith}
+use Rattle.std.proofs.Common.{◌≡◌, ℕ, ◌+◌, ◌/◌, ◌%◌, ◌^◌, ◌<◌, Bool, true, false, ◌&&◌, ◌||◌, ltb, List, length, get_or, set, Ok, Result, refl, inl, inr, mod-eq_of_lt, arith}
 use Rattle.std.proofs.lemmas.Bool.Decides.{nat_tests}
 use Rattle.std.proofs.lemmas.List.{length-map}
 use Rattle.std.proofs.lemmas.Bool.{cases_Bool, lt-ltb}
 use Rattle.words.specs.Words.{space_of, pointer_of}
-use Rattle.words.specs.Packing.{bits_of, per_word, packed_word, with_entry}
+use Rattle.words.specs.Packing.{bits_of, per_word, packed_word}
 use Rattle.words.proofs.Packing.{packed-with}
 use Rattle.kinds.specs.Kinds.{boxed, heads, takes, entry_number}
 use Rattle.answers.specs.declared.Refusal.{Refusal}
-use Rattle.graph.specs.Graph.{Value, plain, ref, trap, Kind, Object, Graph, object, put_cell}
-use Rattle.graph.specs.Shape.{size, entries, entry_of, entry_value, Shaped}
+use Rattle.graph.specs.Graph.{Value, ref, Kind, Object, Graph, object, put_cell}
+use Rattle.graph.specs.Shape.{entries, entry_of}
 use Rattle.graph.specs.Lawful.{class_of}
 use Rattle.graph.specs.Calls.{fits}
-use Rattle.graph.proofs.Shape.{size-boxed}
-use Rattle.layout.specs.Machine.{Table, Machine, window, start, word_at, with_words}
+use Rattle.layout.specs.Machine.{Table, Machine, window, start, with_words}
 use Rattle.layout.specs.Places.{Places, Means}
 use Rattle.layout.specs.Shows.{Shown, Steady}
 use Rattle.layout.proofs.Meaning.{means-ref}

@@ -1,10 +1,10 @@
 -- Calls stay within the windows, whatever the memory holds.
-use Rattle.std.proofs.Common.{◌≡◌, ℕ, zero, suc, ◌+◌, ◌-◌, ◌*◌, ◌/◌, ◌%◌, ◌<◌, ◌≤◌, Bool, true, false, cond, not, ◌&&◌, ◌||◌, eqb, ltb, leb, ◌≢◌, ◌⊎◌, List, [], ◌∷◌, length, get_or, set, is_some, Some, None, Ok, Err, Option, Result, sym, refl, ap, ◌∙◌, subst, inl, inr, arith}
+use Rattle.std.proofs.Common.{◌≡◌, ℕ, zero, suc, ◌+◌, ◌-◌, ◌%◌, ◌<◌, ◌≤◌, Bool, true, false, cond, not, ◌&&◌, ◌||◌, eqb, ltb, leb, List, length, get_or, set, is_some, Some, None, Ok, Err, Option, Result, sym, refl, ap, ◌∙◌, subst, inl, inr, arith}
 use Rattle.std.proofs.lemmas.Bool.Decides.{nat_tests}
 use Rattle.std.proofs.lemmas.List.{length-set, get_or-set_other}
 use Rattle.std.proofs.lemmas.Bool.{cases_Bool, true≢false}
 use Rattle.words.specs.Words.{type_of, space_of, pointer_of, access_of, count_of}
-use Rattle.words.specs.Packing.{per_word, packed_count}
+use Rattle.words.specs.Packing.{packed_count}
 use Rattle.words.proofs.Packing.{packed-in}
 use Rattle.words.specs.Literals.{word_of}
 use Rattle.words.specs.declared.literals.Literal.{Literal}
@@ -13,18 +13,18 @@ use Rattle.answers.specs.declared.Refusal.{Refusal}
 use Rattle.answers.specs.declared.Refusal.TheVariants.{OutOfBounds, Unfit, Frozen, DynamicInReadOnly, Foreign, Short}
 use Rattle.answers.specs.declared.Place.TheVariants.{Memory}
 use Rattle.answers.specs.declared.Told.{Told}
-use Rattle.graph.specs.Graph.{Kind, uvector, string, bvector, symbol, list}
-use Rattle.layout.specs.Machine.{Table, Machine, windows, window, start, room, low, high, register_at, with_register, with_words}
+use Rattle.graph.specs.Graph.{Kind}
+use Rattle.layout.specs.Machine.{Table, Machine, windows, window, start, room, low, high, register_at, with_register}
 use Rattle.layout.specs.Ordered.{Ordered}
 use Rattle.store.specs.Checks.{in_use, dynamic_word}
 use Rattle.store.specs.Spaces.{space_at}
-use Rattle.store.specs.Flow.{after, admission}
+use Rattle.store.specs.Flow.{after}
 use Rattle.objects.specs.declared.opened.Opened.{Opened}
 use Rattle.objects.specs.Open.{next, or_else, fetched, headed, boxed_cells, packed_cells, measured, located, extent, opened_with, opened_as, opened}
 use Rattle.cells.specs.Cells.{cell_place, entry_place, entered, fits_cell, frozen_cell, stored, saved, loaded}
 use Rattle.access.specs.Access.{put_word, put_done, read_from, read_done, write_refused, written, write_done, told_word, tell_done, same_done, read_only_lows, with_frozen, freeze_done, with_space, space_done}
-use Rattle.promises.specs.Promise.{Within, Stays, Sticks}
-use Rattle.laws.proofs.Admission.{admission-stays, admission-sticks}
+use Rattle.promises.specs.Promise.{Within, Stays}
+use Rattle.laws.proofs.Admission.{admission-stays}
 
 -- starts rise from window to window
 module _ (t : Table) (o : Ordered t.starts t.lows t.highs) where

@@ -1,23 +1,20 @@
 -- Telling and comparing answer as the graph does.
-use Rattle.std.proofs.Common.{◌≡◌, ℕ, zero, suc, ◌+◌, ◌-◌, ◌*◌, ◌/◌, ◌%◌, ◌<◌, ◌≤◌, Bool, true, false, cond, not, ◌&&◌, ◌||◌, eqb, ltb, leb, ◌≢◌, ◌⊎◌, List, [], ◌∷◌, length, get_or, Some, None, Ok, Err, Result, sym, refl, ap, ◌∙◌, inl, inr, arith}
+use Rattle.std.proofs.Common.{◌≡◌, ℕ, zero, suc, ◌/◌, ◌<◌, true, false, cond, ◌&&◌, eqb, ltb, leb, ◌≢◌, List, [], length, Some, None, Ok, sym, refl, ap, ◌∙◌, inl, inr, arith}
 use Rattle.std.proofs.lemmas.Bool.Decides.{nat_tests}
 use Rattle.std.proofs.lemmas.Bool.{cases_eq, cases_Bool, eq-eqb, ne_eqb, true≢false}
 use Rattle.words.specs.Words.{type_of, space_of, signed, fixnum_word, character_word, null_word}
 use Rattle.words.specs.Literals.{literal_of}
-use Rattle.words.specs.declared.literals.Literal.{Literal}
-use Rattle.words.specs.declared.literals.Literal.TheVariants.{Fixnum, Character, Null}
+use Rattle.words.specs.declared.literals.Literal.TheVariants.{Fixnum, Character}
 use Rattle.words.proofs.Coding.{signed_range, data-signed}
 use Rattle.words.proofs.LiteralWords.{literal-of-word}
 use Rattle.kinds.specs.Kinds.{is_unset, code}
 use Rattle.answers.specs.declared.Told.{Told}
-use Rattle.answers.specs.declared.Refusal.{Refusal}
-use Rattle.graph.specs.Graph.{Immediate, fixnum, character, null, trap, Value, plain, ref, Kind, Object, Graph, object}
+use Rattle.graph.specs.Graph.{fixnum, character, null, trap, Value, plain, ref, object}
 use Rattle.graph.specs.Lawful.{class_of}
 use Rattle.graph.specs.Calls.{State, register, objects_of, tell, told, same, sort, number, alike}
 use Rattle.graph.proofs.Shape.{code-pointer}
 use Rattle.layout.specs.Machine.{Table, Machine, register_at, now_space}
 use Rattle.layout.specs.Places.{Places, Means}
-use Rattle.layout.specs.Shows.{Shown}
 use Rattle.layout.proofs.Meaning.{means-ref}
 use Rattle.layout.proofs.Windows.{now-below}
 use Rattle.layout.proofs.Reading.{leads}

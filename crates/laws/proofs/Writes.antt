@@ -1,17 +1,16 @@
 -- Writing answers as the graph does.
-use Rattle.std.proofs.Common.{◌≡◌, ℕ, zero, suc, ◌+◌, ◌<◌, ◌≤◌, Bool, true, false, cond, not, ◌&&◌, ◌||◌, eqb, ltb, leb, ◌≢◌, ◌⊎◌, List, [], ◌∷◌, length, get_or, set, Ok, Err, Result, sym, refl, ap, ◌∙◌, inl, inr, arith}
-use Rattle.std.proofs.lemmas.Bool.{cases_Bool, leb-false, true≢false, eq-eqb}
-use Rattle.words.specs.Words.{space_of}
+use Rattle.std.proofs.Common.{◌≡◌, ℕ, ◌<◌, Bool, true, false, not, ◌&&◌, eqb, leb, List, [], ◌∷◌, length, Ok, Err, Result, sym, refl, ap, ◌∙◌}
+use Rattle.std.proofs.lemmas.Bool.{leb-false, true≢false, eq-eqb}
 use Rattle.answers.specs.declared.Refusal.{Refusal}
-use Rattle.answers.specs.declared.Refusal.TheVariants.{Unknown, WrongKind, OutOfBounds, Unfit, Frozen, DynamicInReadOnly, Short}
-use Rattle.graph.specs.Graph.{Value, plain, ref, Kind, Object, Graph, nothing, object, put_cell}
+use Rattle.answers.specs.declared.Refusal.TheVariants.{WrongKind, OutOfBounds, Unfit, Frozen, DynamicInReadOnly}
+use Rattle.graph.specs.Graph.{Value, plain, ref, Graph, object, put_cell}
 use Rattle.graph.specs.Calls.{State, register, objects_of, with_graph, is_object, identity, target, is_dynamic, fits, write}
-use Rattle.layout.specs.Machine.{Table, Machine, register_at, with_words}
+use Rattle.layout.specs.Machine.{Machine, register_at, with_words}
 use Rattle.layout.specs.Places.{Places, Means}
-use Rattle.layout.specs.Shows.{Shown, Steady}
+use Rattle.layout.specs.Shows.{Steady}
 use Rattle.layout.proofs.Meaning.{means-ref}
 use Rattle.store.specs.Checks.{dynamic_word}
-use Rattle.store.specs.Flow.{after, admission}
+use Rattle.store.specs.Flow.{after}
 use Rattle.objects.specs.declared.opened.Opened.{Opened}
 use Rattle.objects.specs.Open.{opened, opened_with}
 use Rattle.cells.specs.Cells.{fits_cell, frozen_cell, saved}

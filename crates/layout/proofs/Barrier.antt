@@ -1,18 +1,16 @@
 -- What the barrier and the scavenger find, and what they leave.
-use Rattle.std.proofs.Common.{◌≡◌, ℕ, zero, suc, ◌+◌, ◌-◌, ◌*◌, ◌<◌, ◌≤◌, Bool, true, false, cond, not, ◌&&◌, eqb, ltb, leb, ◌≢◌, ◌⊎◌, List, [], ◌∷◌, ◌++◌, length, get_or, set, sym, refl, ap, ◌∙◌, subst, inl, inr, arith}
-use Rattle.std.proofs.lemmas.List.{length-set, get_or-set_same, get_or-set_other, set-get_or}
-use Rattle.std.proofs.lemmas.Bool.{cases_eq, cases_lt, cases_Bool, true≢false, lt-leb, le-leb, leb-true, leb-false}
-use Rattle.std.proofs.lemmas.Bool.Decides.{nat_tests}
-use Rattle.words.specs.Words.{type_of, space_of, pointer_of, pointer_word, forward_word, header_word, words_of}
+use Rattle.std.proofs.Common.{◌≡◌, ℕ, ◌+◌, ◌<◌, Bool, true, false, ◌≢◌, length, get_or, set, sym, refl, ap, ◌∙◌, inl, inr, arith}
+use Rattle.std.proofs.lemmas.List.{set-get_or}
+use Rattle.std.proofs.lemmas.Bool.{cases_Bool}
+use Rattle.words.specs.Words.{type_of, space_of, pointer_of, pointer_word, header_word, words_of}
 use Rattle.words.proofs.Coding.{type_of-pointer, space_of-pointer, pointer_of-pointer, words_of-header, type_of-header}
-use Rattle.graph.specs.Graph.{Immediate, fixnum, character, null, trap, Value, plain, ref, Kind, Object, Graph, nothing, object}
-use Rattle.graph.specs.Shape.{code, index, boxed, heads, immediate_word, Small, Want, exact, value, want, size, size_by, Shaped}
+use Rattle.graph.specs.Graph.{Immediate, fixnum, character, null, trap, Value, plain, ref, Object, Graph, nothing, object}
+use Rattle.graph.specs.Shape.{code, boxed, immediate_word, Small, value, want, size, size_by, Shaped}
 use Rattle.graph.proofs.Shape.{code-pointer, size_by-cases, want-first, want-cases, want-cell, size-boxed, unboxed-heads}
-use Rattle.layout.specs.Machine.{Table, Machine, Frame, windows, window, start, room, low, high, dirty, old_space, now_space, with_words, with_register, word_at}
+use Rattle.layout.specs.Machine.{Table, Machine, Frame, dirty, old_space, with_words, word_at}
 use Rattle.layout.specs.Places.{Places, space_now, new_window, old_window, new_word, old_word, new_address, old_address, Means, Fits, Map}
-use Rattle.layout.specs.Shows.{Holds, Row, Roots, Shown}
-use Rattle.layout.proofs.Meaning.{means-more, means-weak, fits-weak}
-use Rattle.layout.proofs.Windows.{now-below, space-below, new-below, old_below, new-narrow, old-narrow, new_in, old-in}
+use Rattle.layout.specs.Shows.{Shown}
+use Rattle.layout.proofs.Windows.{space-below, new-below, old_below, new-narrow, old-narrow, old-in}
 use Rattle.layout.proofs.Writing.{holds-change}
 
 -- no word that means something is a forward

@@ -1,18 +1,18 @@
 -- (f) An object is copied to the low end of new space, and a forward is left: the same graph is shown.
-use Rattle.std.proofs.Common.{◌≡◌, ℕ, zero, suc, ◌+◌, ◌-◌, ◌*◌, ◌<◌, ◌≤◌, Bool, true, false, cond, not, ◌&&◌, eqb, ltb, leb, ◌≢◌, ◌⊎◌, List, [], ◌∷◌, ◌++◌, length, get_or, set, sym, refl, ap, ◌∙◌, subst, inl, inr, arith}
+use Rattle.std.proofs.Common.{◌≡◌, ℕ, ◌+◌, ◌<◌, ◌≤◌, Bool, true, false, cond, ◌&&◌, ltb, leb, ◌≢◌, ◌⊎◌, List, length, get_or, set, sym, refl, ap, ◌∙◌, inl, inr, arith}
 use Rattle.std.proofs.lemmas.List.{length-set, get_or-set_same, get_or-set_other}
-use Rattle.std.proofs.lemmas.Bool.{cases_eq, cases_lt, cases_Bool, true≢false}
+use Rattle.std.proofs.lemmas.Bool.{cases_Bool}
 use Rattle.std.proofs.lemmas.Bool.Decides.{nat_tests}
 use Rattle.words.specs.Words.{pointer_word, forward_word}
-use Rattle.graph.specs.Graph.{trap, Value, plain, ref, Kind, Object, Graph, nothing, object}
-use Rattle.graph.specs.Shape.{code, index, boxed, Want, exact, value, want, size}
+use Rattle.graph.specs.Graph.{ref, Kind, Object, Graph, object}
+use Rattle.graph.specs.Shape.{code, boxed, Want, exact, value, want}
 use Rattle.graph.proofs.Shape.{want-exact}
-use Rattle.layout.specs.Machine.{Table, Machine, Frame, windows, window, start, room, low, high, dirty, old_space, now_space, with_cursors, with_heap, Wrote}
-use Rattle.layout.specs.Places.{Tag, gap, past, Places, Means, Fits, Map, new_word, old_address, placing, Room, Paid}
-use Rattle.layout.specs.Shows.{Holds, Rules, Steady, Shown}
-use Rattle.layout.proofs.Meaning.{fits-weak, roots-map}
+use Rattle.layout.specs.Machine.{Table, Machine, Frame, windows, window, start, low, high, dirty, with_cursors, with_heap, Wrote}
+use Rattle.layout.specs.Places.{past, Places, Means, Fits, Map, old_address, placing, Room}
+use Rattle.layout.specs.Shows.{Shown}
+use Rattle.layout.proofs.Meaning.{roots-map}
 use Rattle.layout.proofs.Windows.{window-below, now-below, old-in}
-use Rattle.layout.proofs.Placing.{upd_same, space-here, space-not-old, means-placed, fits-placed, map-placed, filled-placed, outside, past-no-gap}
+use Rattle.layout.proofs.Placing.{upd_same, means-placed, fits-placed, map-placed, filled-placed, outside, past-no-gap}
 use Rattle.layout.proofs.Placed.{Written, holds-placed, rules-placed}
 use Rattle.layout.proofs.Counting.{counts-placed}
 use Rattle.layout.proofs.Ends.{at-cases, at_same, room-low, frame-low, paid-copy}

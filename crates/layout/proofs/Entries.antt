@@ -1,15 +1,14 @@
 -- (h) Entries of unboxed objects.
-use Rattle.std.proofs.Common.{◌≡◌, ℕ, zero, suc, ◌+◌, ◌-◌, ◌*◌, ◌/◌, ◌%◌, ◌^◌, ◌<◌, ◌≤◌, Bool, true, false, cond, ◌≢◌, ◌⊎◌, List, [], ◌∷◌, ◌++◌, length, get_or, set, sym, refl, ap, ◌∙◌, subst, inl, inr, arith}
-use Rattle.words.specs.Words.{space_of, pointer_of}
-use Rattle.words.specs.Packing.{bits_of, per_word, packed_word, packed_count}
-use Rattle.words.proofs.Packing.{packed-in, packed-read, packed-write}
-use Rattle.graph.specs.Graph.{trap, Value, plain, ref, Kind, Object, Graph, nothing, object, celled, put_cell}
-use Rattle.graph.specs.Shape.{boxed, heads, size, entries, entry_value, Want, exact, value, want, Shaped}
+use Rattle.std.proofs.Common.{◌≡◌, ℕ, ◌+◌, ◌/◌, ◌%◌, ◌^◌, ◌<◌, false, length, get_or, set, sym, refl, ap, ◌∙◌, arith}
+use Rattle.words.specs.Packing.{bits_of, per_word, packed_word}
+use Rattle.words.proofs.Packing.{packed-in, packed-read}
+use Rattle.graph.specs.Graph.{trap, Value, plain, ref, Object, Graph, object, celled, put_cell}
+use Rattle.graph.specs.Shape.{boxed, heads, size, entries, entry_value, Shaped}
 use Rattle.graph.proofs.Shape.{size-celled}
 use Rattle.graph.proofs.Entries.{entry-plain, want_entry, want-entry-same, want-entry-other, shaped-entry}
-use Rattle.layout.specs.Machine.{Table, Machine, window, start, dirty, word_at, with_words}
-use Rattle.layout.specs.Places.{Places, new_address, Means, Fits, Map}
-use Rattle.layout.specs.Shows.{Holds, Rules, Steady, Shown}
+use Rattle.layout.specs.Machine.{Machine, word_at, with_words}
+use Rattle.layout.specs.Places.{Places, Means}
+use Rattle.layout.specs.Shows.{Steady, Shown}
 use Rattle.layout.proofs.Meaning.{means-ref}
 use Rattle.layout.proofs.Reading.{word_place, place-leads, shows-word}
 use Rattle.std.proofs.lemmas.Bool.{true≢false}

@@ -1,16 +1,15 @@
 -- (g) The flip shows the same graph; registers may then be old.
-use Rattle.std.proofs.Common.{◌≡◌, ℕ, zero, suc, ◌+◌, ◌-◌, ◌*◌, ◌<◌, ◌≤◌, Bool, true, false, cond, not, ◌&&◌, eqb, ltb, leb, ◌≢◌, ◌⊎◌, List, [], ◌∷◌, ◌++◌, length, get_or, set, sym, refl, ap, ◌∙◌, subst, inl, inr, arith}
-use Rattle.std.proofs.lemmas.Bool.{cases_eq, cases_lt, cases_Bool, true≢false, eq-eqb, ne_eqb, eqb-true, eqb-false, and_parts, and_from, not-true, not_from_false, lt-ltb, le-ltb, lt-leb, le-leb}
+use Rattle.std.proofs.Common.{◌≡◌, ℕ, zero, suc, ◌+◌, ◌-◌, ◌<◌, ◌≤◌, Bool, true, false, not, ◌&&◌, eqb, ltb, leb, ◌≢◌, ◌⊎◌, List, length, get_or, sym, refl, ap, ◌∙◌, inl, inr, arith}
+use Rattle.std.proofs.lemmas.Bool.{cases_eq, cases_Bool, true≢false, eq-eqb, ne_eqb, eqb-true, eqb-false, and_parts, and_from, not-true, not_from_false, lt-ltb, le-ltb, lt-leb, le-leb}
 use Rattle.std.proofs.lemmas.Bool.Decides.{nat_tests}
-use Rattle.words.specs.Words.{pointer_word, forward_word}
-use Rattle.graph.specs.Graph.{trap, Value, plain, ref, Kind, Object, Graph, nothing, object}
-use Rattle.graph.specs.Shape.{code, index, boxed, heads, Want, exact, value, want, body_want, head_word, size}
+use Rattle.words.specs.Words.{pointer_word}
+use Rattle.graph.specs.Graph.{trap, Value, plain, ref, Kind, Object, Graph, object}
+use Rattle.graph.specs.Shape.{code, index, boxed, Want, exact, value, want}
 use Rattle.graph.proofs.Shape.{want-exact, want-cases, want-head, want-cell}
-use Rattle.layout.specs.Machine.{Table, Stacks, Machine, Frame, windows, window, start, room, low, high, dirty, old_space, now_space}
-use Rattle.layout.specs.Places.{Tag, gap, here, past, Places, space_now, new_window, new_word, old_word, new_address, old_address, Means, Fits, Map}
-use Rattle.layout.specs.Shows.{flat, Holds, Rules, Steady, Row, Roots, Filled, Counts, sum_to, weight, words_where, is_copy, is_made, is_in, Shown}
-use Rattle.layout.specs.Flip.{turn, flipping, flipped_table, flipped_stacks, flipped_machine, Flipped, Clean}
-use Rattle.layout.proofs.Meaning.{fits_more, fits-weak, means-weak}
+use Rattle.layout.specs.Machine.{Table, Machine, Frame, windows, window, start, room, low, dirty, old_space, now_space}
+use Rattle.layout.specs.Places.{Tag, gap, here, past, Places, space_now, new_window, new_address, old_address, Means, Fits, Map}
+use Rattle.layout.specs.Shows.{flat, Holds, Rules, Steady, Row, Filled, Counts, sum_to, weight, words_where, is_copy, is_made, is_in, Shown}
+use Rattle.layout.specs.Flip.{turn, flipping, flipped_table, flipped_machine, Flipped, Clean}
 use Rattle.layout.proofs.Windows.{window-below, window_same, windows-apart, now-below, space-below, space-new, new-below}
 use Rattle.layout.proofs.Counting.{sum_to-same}
 

@@ -1,5 +1,5 @@
 -- (a) A heap just made shows the empty graph.
-use Rattle.std.proofs.Common.{◌≡◌, ℕ, zero, suc, ◌+◌, ◌-◌, ◌*◌, ◌<◌, ◌≤◌, Bool, true, false, cond, not, ◌&&◌, leb, ◌≢◌, ◌⊎◌, List, [], ◌∷◌, ◌++◌, length, get_or, set, replicate, sym, refl, ap, ◌∙◌, subst, inl, inr, arith}
+use Rattle.std.proofs.Common.{◌≡◌, ℕ, zero, suc, ◌+◌, ◌<◌, ◌≤◌, Bool, true, false, leb, List, [], ◌∷◌, length, get_or, replicate, sym, refl, ◌∙◌, inl, inr, arith}
 use Rattle.std.specs.List.{AllByRecursion}
 use Rattle.std.proofs.lemmas.List.{length-replicate, get_or-replicate, get_or_past}
 use Rattle.std.proofs.ByRecursion.{All-get_or}
@@ -9,9 +9,9 @@ use Rattle.graph.specs.Graph.{null, trap, Value, plain, Kind}
 use Rattle.graph.specs.Shape.{index, kinds}
 use Rattle.graph.specs.Lawful.{Lawful}
 use Rattle.graph.proofs.Shape.{index_below}
-use Rattle.layout.specs.Machine.{Table, Machine, Frame, windows, window, start, room, low, high}
-use Rattle.layout.specs.Places.{Places, Means, Map}
-use Rattle.layout.specs.Shows.{Holds, Rules, Row, Roots, Filled, Counts, words_where, Shown, Shows}
+use Rattle.layout.specs.Machine.{windows, window, start}
+use Rattle.layout.specs.Places.{Places, Means}
+use Rattle.layout.specs.Shows.{Row, words_where, Shown}
 use Rattle.layout.specs.Fresh.{starts_from, fresh_table, fresh_machine, empty_graph, nowhere}
 
 pub get_or-all : (n i x : ℕ) → get_or (replicate n x) i x ≡ x

@@ -1,13 +1,12 @@
 -- What the barrier's guards find: a word passes exactly if it is no pointer into old space.
-use Rattle.std.proofs.Common.{◌≡◌, ℕ, zero, suc, ◌+◌, ◌-◌, ◌*◌, ◌<◌, ◌≤◌, Bool, true, false, cond, eqb, ltb, leb, ◌≢◌, ◌⊎◌, List, [], ◌∷◌, ◌++◌, length, get_or, take, set, sym, refl, ap, ◌∙◌, subst, inl, inr, arith}
-use Rattle.std.proofs.lemmas.Bool.{cases_eq, cases_lt, cases_Bool, le-ltb, lt-ltb, ltb-true}
+use Rattle.std.proofs.Common.{◌≡◌, ℕ, ◌<◌, ◌≤◌, Bool, true, false, ltb, ◌≢◌, ◌⊎◌, [], ◌∷◌, ◌++◌, length, sym, refl, ap, ◌∙◌, inl, inr, arith}
 use Rattle.words.specs.Words.{type_of, space_of, pointer_of, pointer_word}
-use Rattle.graph.specs.Graph.{Immediate, Value, plain, ref, Kind, Object, Graph, object}
-use Rattle.graph.specs.Shape.{code, immediate_word, Small}
-use Rattle.layout.specs.Machine.{Table, Stacks, Machine, Frame, window, start, old_space, word_at}
-use Rattle.layout.specs.Places.{Places, space_now, new_word, old_word, old_address, Means, Map}
-use Rattle.layout.specs.Shows.{Row, Roots, Shown}
-use Rattle.layout.proofs.Meaning.{row-push, row-take, means-weak}
+use Rattle.graph.specs.Graph.{Value, plain, ref, Graph}
+use Rattle.graph.specs.Shape.{code}
+use Rattle.layout.specs.Machine.{Table, Machine, Frame, old_space, word_at}
+use Rattle.layout.specs.Places.{Places, old_word, old_address, Means, Map}
+use Rattle.layout.specs.Shows.{Shown}
+use Rattle.layout.proofs.Meaning.{row-push, means-weak}
 use Rattle.layout.proofs.Windows.{space-new}
 use Rattle.layout.proofs.Reading.{leads}
 use Rattle.layout.proofs.Same.{immediate-low}

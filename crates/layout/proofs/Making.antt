@@ -1,15 +1,15 @@
 -- (e) An object is made.
-use Rattle.std.proofs.Common.{◌≡◌, ℕ, zero, suc, ◌+◌, ◌-◌, ◌*◌, ◌<◌, ◌≤◌, Bool, true, false, cond, not, ◌&&◌, eqb, ltb, leb, ◌≢◌, ◌⊎◌, List, [], ◌∷◌, ◌++◌, length, get_or, set, sym, refl, ap, ◌∙◌, subst, inl, inr, arith}
+use Rattle.std.proofs.Common.{◌≡◌, ℕ, suc, ◌+◌, ◌-◌, ◌<◌, ◌≤◌, true, false, ◌≢◌, List, [], ◌∷◌, ◌++◌, length, get_or, set, sym, refl, ap, ◌∙◌, inl, inr, arith}
 use Rattle.std.proofs.lemmas.List.{length_push, get_or_at, get_or_append_left}
-use Rattle.std.proofs.lemmas.Bool.{cases_eq, cases_lt, cases_Bool, true≢false, ne_eqb, le-ltb}
-use Rattle.words.specs.Words.{pointer_word, forward_word}
-use Rattle.graph.specs.Graph.{trap, Value, plain, ref, Kind, Object, Graph, nothing, add_object}
-use Rattle.graph.specs.Shape.{code, index, Want, exact, value, want, size, Shaped}
+use Rattle.std.proofs.lemmas.Bool.{cases_Bool, true≢false, ne_eqb, le-ltb}
+use Rattle.words.specs.Words.{pointer_word}
+use Rattle.graph.specs.Graph.{trap, plain, ref, Kind, Object, Graph, nothing, add_object}
+use Rattle.graph.specs.Shape.{code, index, want, size, Shaped}
 use Rattle.graph.specs.Lawful.{Lawful}
 use Rattle.graph.proofs.Shape.{size-some}
-use Rattle.layout.specs.Machine.{Table, Machine, Frame, windows, window, start, room, low, high, dirty, old_space, now_space, with_cursors, with_heap, Wrote}
-use Rattle.layout.specs.Places.{Tag, gap, Places, Means, Fits, Map, new_word, old_address, placing, Room, Paid}
-use Rattle.layout.specs.Shows.{Holds, Rules, Steady, Shown}
+use Rattle.layout.specs.Machine.{Table, Machine, Frame, windows, window, start, room, low, high, dirty, now_space, with_cursors, with_heap, Wrote}
+use Rattle.layout.specs.Places.{Places, Means, Fits, Map, placing, Room, Paid}
+use Rattle.layout.specs.Shows.{Steady, Shown}
 use Rattle.layout.proofs.Meaning.{fits-weak, roots-map}
 use Rattle.layout.proofs.Windows.{window-below, now-below, now_space-below}
 use Rattle.layout.proofs.Placing.{upd_same, space-here, space-not-old, means-placed, fits-placed, map-placed, filled-placed, steady-placed}

@@ -1,14 +1,14 @@
 -- Meanings of words, and rows of them.
-use Rattle.std.proofs.Common.{◌≡◌, ℕ, zero, suc, ◌+◌, ◌-◌, ◌*◌, ◌<◌, ◌≤◌, Bool, true, false, cond, eqb, ltb, leb, ◌≢◌, ◌⊎◌, List, [], ◌∷◌, ◌++◌, length, get_or, take, set, sym, refl, ap, ◌∙◌, inl, inr, arith}
-use Rattle.std.proofs.lemmas.List.{length-set, length_push, length-append, length-take-le, get_or-set_same, get_or-set_other, get_or_append_left, get_or_at, get_or-take}
-use Rattle.std.proofs.lemmas.Bool.{cases_eq, cases_lt, cases_Bool, false≢true, lt-leb}
-use Rattle.graph.specs.Graph.{Immediate, trap, Value, plain, ref, Kind, Object, Graph, Binding, put_register}
+use Rattle.std.proofs.Common.{◌≡◌, ℕ, ◌+◌, ◌<◌, ◌≤◌, Bool, true, false, ltb, leb, List, [], ◌∷◌, ◌++◌, length, get_or, take, set, sym, refl, ◌∙◌, inl, inr, arith}
+use Rattle.std.proofs.lemmas.List.{length-set, length-append, length-take-le, get_or-set_same, get_or-set_other, get_or_append_left, get_or_at, get_or-take}
+use Rattle.std.proofs.lemmas.Bool.{cases_eq, false≢true, lt-leb}
+use Rattle.graph.specs.Graph.{trap, Value, plain, ref, Object, Graph, Binding, put_register}
 use Rattle.graph.specs.Shape.{Want, exact, value}
 use Rattle.graph.specs.Lawful.{class_of, Known}
 use Rattle.graph.proofs.Lawful.{lawful-register}
 use Rattle.kinds.specs.Kinds.{is_unset}
 use Rattle.layout.specs.Machine.{Table, Stacks, Machine, with_register}
-use Rattle.layout.specs.Places.{Places, new_word, old_word, Means, Fits, Map}
+use Rattle.layout.specs.Places.{Places, new_word, Means, Fits, Map}
 use Rattle.layout.specs.Shows.{Holds, Row, Roots, Shown}
 
 -- a word that may be old may also be new

@@ -1,13 +1,13 @@
 -- An object gets a place: where everything is then.
-use Rattle.std.proofs.Common.{◌≡◌, ℕ, zero, suc, ◌+◌, ◌-◌, ◌*◌, ◌<◌, ◌≤◌, Bool, true, false, cond, ◌&&◌, eqb, ltb, leb, ◌≢◌, ◌⊎◌, List, [], ◌∷◌, ◌++◌, length, get_or, set, sym, refl, ap, ◌∙◌, subst, inl, inr, arith}
-use Rattle.std.proofs.lemmas.Bool.{cases_eq, cases_lt, cases_Bool, eq-eqb, ne_eqb, true≢false}
+use Rattle.std.proofs.Common.{◌≡◌, ℕ, suc, ◌+◌, ◌-◌, ◌<◌, ◌≤◌, Bool, true, false, ◌&&◌, ltb, leb, ◌≢◌, ◌⊎◌, List, get_or, sym, refl, ap, ◌∙◌, inl, inr, arith}
+use Rattle.std.proofs.lemmas.Bool.{cases_eq, cases_lt, eq-eqb, ne_eqb, true≢false}
 use Rattle.std.proofs.lemmas.Bool.Decides.{nat_tests}
 use Rattle.graph.specs.Graph.{Value, plain, ref, Kind}
-use Rattle.graph.specs.Shape.{code, index, Want, exact, value}
+use Rattle.graph.specs.Shape.{Want, exact, value}
 use Rattle.layout.specs.Machine.{Table, Frame, windows, window, start, room, low, high, old_space, now_space, with_cursors}
-use Rattle.layout.specs.Places.{Tag, gap, here, past, Places, space_now, new_window, old_window, new_word, old_word, new_address, old_address, Means, Fits, Map, upd, tagging, placing, Room}
+use Rattle.layout.specs.Places.{Tag, gap, here, past, Places, space_now, new_window, new_address, old_address, Means, Fits, Map, upd, tagging, placing, Room}
 use Rattle.layout.specs.Shows.{Filled, Steady}
-use Rattle.layout.proofs.Windows.{now_space-below, now_space-new, window-below, window_same, windows-apart, now-below, space-below, space-new, new-below, old_below}
+use Rattle.layout.proofs.Windows.{now_space-below, now_space-new, window-below, window_same, windows-apart, now-below}
 
 pub upd_same : {X : Type 0} (f : ℕ → X) (i : ℕ) (x : X) → upd f i x i ≡ x
 unfolding upd

@@ -1,13 +1,13 @@
 -- Words are cleaned: registers after the flip, stacks from the top down, windows from the low end up. And a copy finds room.
-use Rattle.std.proofs.Common.{◌≡◌, ℕ, zero, suc, ◌+◌, ◌-◌, ◌*◌, ◌<◌, ◌≤◌, Bool, true, false, cond, not, ◌&&◌, eqb, ltb, leb, ◌≢◌, ◌⊎◌, List, [], ◌∷◌, ◌++◌, length, get_or, set, sym, refl, ap, ◌∙◌, subst, inl, inr, arith}
+use Rattle.std.proofs.Common.{◌≡◌, ℕ, zero, suc, ◌+◌, ◌-◌, ◌<◌, ◌≤◌, Bool, true, false, ◌&&◌, ltb, leb, ◌≢◌, List, get_or, set, refl, ap, ◌∙◌, inl, inr, arith}
 use Rattle.std.proofs.lemmas.List.{length-set, get_or-set_same, get_or-set_other}
-use Rattle.std.proofs.lemmas.Bool.{cases_eq, cases_lt, cases_Bool, true≢false, eq-eqb}
+use Rattle.std.proofs.lemmas.Bool.{cases_eq, cases_Bool, eq-eqb}
 use Rattle.std.proofs.lemmas.Bool.Decides.{nat_tests}
-use Rattle.graph.specs.Graph.{trap, Value, plain, ref, Kind, Object, Graph, nothing, object}
-use Rattle.graph.specs.Shape.{index, Want, want, size}
+use Rattle.graph.specs.Graph.{trap, Value, plain, Kind, Graph, object}
+use Rattle.graph.specs.Shape.{index, want}
 use Rattle.layout.specs.Machine.{Table, Machine, Frame, windows, window, start, room, low, high, dirty, with_heap, with_froms, with_register, word_at}
-use Rattle.layout.specs.Places.{Tag, gap, here, Places, new_window, new_address, Means, Fits, Map}
-use Rattle.layout.specs.Shows.{Holds, Rules, Row, Roots, Filled, Counts, sum_to, weight, words_where, is_copy, is_made, Shown}
+use Rattle.layout.specs.Places.{Places, new_window, new_address, Means, Fits, Map}
+use Rattle.layout.specs.Shows.{Holds, Row, sum_to, weight, words_where, is_copy, Shown}
 use Rattle.layout.proofs.Meaning.{means-more, means-weak, fits_more, fits-weak}
 use Rattle.layout.proofs.Windows.{new-below}
 use Rattle.layout.proofs.Ends.{at-cases}

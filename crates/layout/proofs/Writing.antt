@@ -1,19 +1,18 @@
 -- A word of an object is replaced, in the memory and in the graph.
-use Rattle.std.proofs.Common.{◌≡◌, ℕ, zero, suc, ◌+◌, ◌-◌, ◌*◌, ◌<◌, ◌≤◌, Bool, true, false, cond, eqb, ltb, leb, ◌≢◌, ◌⊎◌, List, [], ◌∷◌, ◌++◌, length, get_or, set, sym, refl, ap, ◌∙◌, subst, inl, inr, arith}
+use Rattle.std.proofs.Common.{◌≡◌, ℕ, ◌+◌, ◌<◌, Bool, true, false, ◌≢◌, List, length, get_or, set, sym, refl, ap, ◌∙◌, inl, inr, arith}
 use Rattle.std.proofs.lemmas.List.{length-set, get_or-set_same, get_or-set_other}
-use Rattle.std.proofs.lemmas.Bool.{cases_eq, cases_lt, cases_Bool}
-use Rattle.words.specs.Words.{type_of, space_of, pointer_of, pointer_word}
-use Rattle.graph.specs.Graph.{Immediate, trap, Value, plain, ref, Kind, Object, Graph, nothing, object, celled, put_cell}
-use Rattle.graph.specs.Shape.{code, index, boxed, heads, Want, exact, value, want, size, Shaped}
-use Rattle.graph.proofs.Shape.{want-cell, size-boxed, size-celled, want-celled-same, want-celled-other, shaped-celled}
-use Rattle.layout.specs.Machine.{Table, Machine, Frame, windows, window, start, room, low, high, dirty, old_space, word_at, with_words}
-use Rattle.layout.specs.Places.{Tag, gap, here, past, Places, space_now, new_window, new_word, new_address, old_address, Means, Fits, Map}
+use Rattle.std.proofs.lemmas.Bool.{cases_eq}
+use Rattle.graph.specs.Graph.{trap, Value, plain, ref, Kind, Object, Graph, nothing, object, celled, put_cell}
+use Rattle.graph.specs.Shape.{boxed, heads, want, size, Shaped}
+use Rattle.graph.proofs.Shape.{size-boxed, size-celled, want-celled-same, want-celled-other, shaped-celled}
+use Rattle.layout.specs.Machine.{Table, Machine, Frame, dirty, with_words}
+use Rattle.layout.specs.Places.{Places, new_window, new_address, old_address, Means, Fits, Map}
 use Rattle.layout.specs.Shows.{Holds, Rules, Steady, Shown}
 use Rattle.kinds.specs.Kinds.{takes}
 use Rattle.graph.specs.Lawful.{class_of}
 use Rattle.graph.proofs.Lawful.{each_set, lawful-cell, takes-holds}
 use Rattle.layout.proofs.Meaning.{means-ref, means-known, fits-weak}
-use Rattle.layout.proofs.Windows.{space-below, new_in, new-narrow}
+use Rattle.layout.proofs.Windows.{new_in}
 use Rattle.layout.proofs.Reading.{word_place, place-leads}
 
 -- word j of object i becomes x, and the object o'

@@ -1,8 +1,8 @@
 -- The flip: new space becomes old, and the other dynamic space new and empty.
-use Rattle.std.specs.Prelude.{◌≡◌, ℕ, zero, suc, ◌+◌, ◌-◌, ◌*◌, ◌<◌, ◌≤◌, Bool, true, false, cond, not, ◌&&◌, List, [], ◌∷◌, ◌++◌, length, ◌==◌, slice_index}
+use Rattle.std.specs.Prelude.{◌≡◌, ℕ, ◌+◌, ◌-◌, ◌<◌, true, false, cond, not, ◌&&◌, List, length, ◌==◌, slice_index}
 use Rattle.graph.specs.Graph.{Kind}
 use Rattle.graph.specs.Shape.{index, boxed}
-use Rattle.layout.specs.Machine.{Table, Stacks, Machine, windows, window, start, room, low, high, dirty, old_space}
+use Rattle.layout.specs.Machine.{Table, Stacks, Machine, window, room, low, high, dirty, old_space}
 use Rattle.layout.specs.Places.{Tag, gap, here, past, Places}
 
 -- The tag of an address after a flip: words of dynamic objects belong to the past.

@@ -1,10 +1,10 @@
 -- A heap just made.
-use Rattle.std.specs.Prelude.{ℕ, zero, suc, ◌+◌, ◌-◌, ◌*◌, ◌<◌, ◌≤◌, Bool, true, false, List, [], ◌∷◌, ◌++◌, length, get_or, set, replicate, None}
+use Rattle.std.specs.Prelude.{ℕ, ◌+◌, false, List, [], ◌∷◌, replicate, None}
 use Rattle.words.specs.Words.{null_word}
-use Rattle.graph.specs.Graph.{Immediate, null, Value, plain, Kind, list, Graph}
+use Rattle.graph.specs.Graph.{null, plain, list, Graph}
 use Rattle.graph.specs.Shape.{kinds}
-use Rattle.layout.specs.Machine.{Table, Stacks, Machine, windows}
-use Rattle.layout.specs.Places.{Tag, gap, Places}
+use Rattle.layout.specs.Machine.{Table, Machine, windows}
+use Rattle.layout.specs.Places.{gap, Places}
 
 -- The windows' starts, by their lengths.
 abbrev pub starts_from : ℕ → List ℕ → List ℕ

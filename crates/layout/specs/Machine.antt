@@ -1,5 +1,5 @@
 -- The machine: memory words, the window table, registers and stacks, as plain lists and numbers.
-use Rattle.std.specs.Prelude.{◌≡◌, ℕ, zero, suc, ◌+◌, ◌-◌, ◌*◌, ◌<◌, ◌≤◌, Bool, true, false, cond, ◌&&◌, ◌≢◌, ◌⊎◌, List, [], ◌∷◌, ◌++◌, length, Option, ◌==◌, nat_le, nat_lt, slice_index, slice_set}
+use Rattle.std.specs.Prelude.{◌≡◌, ℕ, suc, ◌+◌, ◌-◌, ◌*◌, ◌<◌, ◌≤◌, Bool, cond, ◌&&◌, ◌⊎◌, List, length, Option, ◌==◌, nat_le, nat_lt, slice_index, slice_set}
 use Rattle.answers.specs.declared.Place.{Place}
 use Rattle.graph.specs.Graph.{Kind}
 use Rattle.graph.specs.Shape.{index, kinds}

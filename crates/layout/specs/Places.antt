@@ -1,9 +1,9 @@
 -- Where the objects are, and what a word means.
-use Rattle.std.specs.Prelude.{◌≡◌, ℕ, zero, suc, ◌+◌, ◌-◌, ◌*◌, ◌<◌, ◌≤◌, Bool, true, false, cond, not, ◌&&◌, ◌≢◌, ◌⊎◌, List, [], ◌∷◌, ◌++◌, length, ◌==◌, nat_le, nat_lt, slice_index}
-use Rattle.words.specs.Words.{pointer_word, forward_word}
-use Rattle.graph.specs.Graph.{Immediate, Value, plain, ref, Kind}
+use Rattle.std.specs.Prelude.{◌≡◌, ℕ, suc, ◌+◌, ◌-◌, ◌<◌, ◌≤◌, Bool, true, false, cond, not, ◌&&◌, ◌≢◌, ◌⊎◌, List, ◌==◌, nat_le, nat_lt, slice_index}
+use Rattle.words.specs.Words.{pointer_word}
+use Rattle.graph.specs.Graph.{Value, plain, ref, Kind}
 use Rattle.graph.specs.Shape.{code, index, immediate_word, Small, Want, exact, value}
-use Rattle.layout.specs.Machine.{Table, windows, window, start, room, low, high, dirty, old_space, now_space}
+use Rattle.layout.specs.Machine.{Table, window, start, room, low, high, old_space, now_space}
 
 -- Whose word an address is: word k of object i where it is now, or where it was at the flip.
 pub data Tag : Type 0 where

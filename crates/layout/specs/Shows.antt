@@ -1,11 +1,11 @@
 -- A machine shows a graph.
-use Rattle.std.specs.Prelude.{◌≡◌, ℕ, zero, suc, ◌+◌, ◌-◌, ◌*◌, ◌<◌, ◌≤◌, Bool, true, false, cond, not, ◌&&◌, ltb, ◌≢◌, ◌⊎◌, List, [], ◌∷◌, ◌++◌, length, get_or, None, ◌==◌, nat_le, nat_lt, slice_index, slice_index_or}
-use Rattle.words.specs.Words.{pointer_word, forward_word}
-use Rattle.graph.specs.Graph.{Immediate, trap, Value, plain, ref, Kind, Object, Graph, Binding, nothing, object}
+use Rattle.std.specs.Prelude.{◌≡◌, ℕ, zero, suc, ◌+◌, ◌-◌, ◌<◌, ◌≤◌, Bool, true, false, cond, not, ◌&&◌, ltb, ◌≢◌, List, [], ◌∷◌, length, get_or, None, ◌==◌, nat_le, nat_lt, slice_index, slice_index_or}
+use Rattle.words.specs.Words.{forward_word}
+use Rattle.graph.specs.Graph.{trap, Value, plain, ref, Kind, Object, Graph, Binding, nothing}
 use Rattle.graph.specs.Lawful.{Lawful}
-use Rattle.graph.specs.Shape.{code, index, Want, exact, value, want, size, Shaped}
-use Rattle.layout.specs.Machine.{Table, Stacks, Machine, Frame, windows, window, start, room, low, high, dirty, old_space, word_at}
-use Rattle.layout.specs.Places.{Tag, gap, here, past, Places, space_now, new_window, old_window, new_word, old_word, new_address, old_address, Means, Fits, Map}
+use Rattle.graph.specs.Shape.{index, want, size, Shaped}
+use Rattle.layout.specs.Machine.{Table, Stacks, Machine, Frame, windows, window, start, room, low, high, dirty, old_space}
+use Rattle.layout.specs.Places.{Places, space_now, new_window, new_address, old_address, Means, Fits, Map}
 
 -- What the memory holds.
 pub record Holds (p : Places) (t : Table) (ws : List ℕ) (os : List Object) : Type 0 where

@@ -1,6 +1,6 @@
 -- The lines of a text, and what a reader has still to read.
 
-use Rattle.std.specs.Prelude.{◌≡◌, ℕ, ◌<◌, cond, List, [], ◌∷◌, length, drop, ◌==◌, ◌≢◌, slice_index}
+use Rattle.std.specs.Prelude.{ℕ, ◌<◌, cond, List, [], ◌∷◌, length, drop, ◌==◌, ◌≢◌, slice_index}
 use Rattle.lines.specs.declared.reader.Reader.{Reader}
 
 -- The byte that ends a line.

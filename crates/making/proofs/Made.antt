@@ -1,14 +1,9 @@
 -- The ways through a making.
-use Rattle.std.proofs.Common.{◌≡◌, ℕ, ◌+◌, ◌%◌, Bool, true, false, cond, leb, List, ◌++◌, length, set, replicate, Ok, Err, Result, sym, refl, ap, ◌∙◌, arith}
-use Rattle.words.specs.Words.{pointer_word}
-use Rattle.kinds.specs.declared.kind.Kind.{Kind}
-use Rattle.kinds.specs.Kinds.{code}
+use Rattle.std.proofs.Common.{◌≡◌, ℕ, ◌+◌, Bool, true, false, cond, leb, List, length, Ok, Err, Result, ap, arith}
 use Rattle.answers.specs.declared.Refusal.{Refusal}
-use Rattle.answers.specs.declared.Refusal.TheVariants.{NoRoom, Short}
+use Rattle.answers.specs.declared.Refusal.TheVariants.{Short}
 use Rattle.memory.specs.Pasted.{pasted}
-use Rattle.layout.specs.Machine.{Table, Machine, start, now_space, with_heap, with_register, with_words}
-use Rattle.making.specs.Make.{emplaced, target, room_for, claimed, made}
-use Rattle.making.proofs.Emplaced.{block-long}
+use Rattle.making.specs.Make.{emplaced}
 
 -- what is refused was not written
 kept : (b : Bool) (ws ws' p : List ℕ) (e : Refusal) → ◌≡◌ {A = List ℕ × Result (Unit {0}) Refusal} (ws', Err e) (cond b (p, Ok tt) (ws, Err Short)) → ws' ≡ ws

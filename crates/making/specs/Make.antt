@@ -1,5 +1,5 @@
 -- A new object: where it goes, and what that leaves.
-use Rattle.std.specs.Prelude.{ℕ, ◌+◌, ◌-◌, ◌%◌, Bool, true, false, cond, List, length, Ok, Err, Result, ◌==◌, nat_le, nat_lt, slice_set}
+use Rattle.std.specs.Prelude.{ℕ, ◌+◌, ◌-◌, ◌%◌, cond, List, length, Ok, Err, Result, ◌==◌, nat_le, nat_lt, slice_set}
 use Rattle.words.specs.Words.{pointer_word}
 use Rattle.memory.specs.Pasted.{pasted}
 use Rattle.kinds.specs.declared.kind.Kind.{Kind}

@@ -1,5 +1,5 @@
 -- The makings of each kind, over machines.
-use Rattle.std.specs.Prelude.{ℕ, ◌+◌, ◌%◌, Bool, true, false, cond, not, ◌&&◌, ◌||◌, List, [], ◌∷◌, ◌++◌, length, replicate, Some, None, Ok, Err, Option, Result, ◌==◌, nat_le, nat_lt}
+use Rattle.std.specs.Prelude.{ℕ, ◌+◌, ◌%◌, Bool, false, cond, ◌&&◌, ◌||◌, [], ◌∷◌, ◌++◌, replicate, Some, None, Err, Option, Result, ◌==◌, nat_le, nat_lt}
 use Rattle.words.specs.Words.{null_word, trap_word, header_word, entries_word}
 use Rattle.words.specs.Packing.{packed_count}
 use Rattle.kinds.specs.declared.kind.Kind.{Kind}

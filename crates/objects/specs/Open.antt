@@ -1,9 +1,9 @@
 -- An object's head, read word by word and believed only where a call could have left it so.
-use Rattle.std.specs.Prelude.{ℕ, ◌+◌, ◌-◌, ◌/◌, ◌%◌, Bool, true, false, cond, not, ◌&&◌, ◌||◌, List, length, Some, None, Ok, Err, Option, Result, ◌==◌, nat_lt, slice_index}
+use Rattle.std.specs.Prelude.{ℕ, ◌+◌, ◌-◌, ◌/◌, ◌%◌, Bool, cond, not, ◌&&◌, ◌||◌, List, length, Some, None, Ok, Err, Option, Result, ◌==◌, nat_lt, slice_index}
 use Rattle.words.specs.Words.{type_of, space_of, pointer_of, access_of, count_of}
 use Rattle.words.specs.Packing.{packed_count}
 use Rattle.kinds.specs.declared.kind.Kind.{Kind}
-use Rattle.kinds.specs.Kinds.{kind_of, index, boxed, heads, least, size_by, accessible}
+use Rattle.kinds.specs.Kinds.{kind_of, boxed, heads, least, size_by, accessible}
 use Rattle.answers.specs.declared.Place.TheVariants.{Memory}
 use Rattle.answers.specs.declared.Refusal.{Refusal}
 use Rattle.answers.specs.declared.Refusal.TheVariants.{WrongKind, Foreign, Short}

@@ -1,7 +1,7 @@
 -- What a line does to a machine, it does to the graph.
-use Rattle.std.proofs.Common.{◌≡◌, ℕ, suc, ◌+◌, ◌<◌, Bool, true, false, cond, List, [], ◌∷◌, is_ok, Ok, Err, Result, sym, refl, ap, ◌∙◌, subst}
+use Rattle.std.proofs.Common.{◌≡◌, ℕ, Bool, true, false, cond, List, [], ◌∷◌, is_ok, Ok, Err, Result, refl}
 use Rattle.answers.specs.declared.Refusal.{Refusal}
-use Rattle.graph.specs.Calls.{State, Call, judged, outcome, put, read, write}
+use Rattle.graph.specs.Calls.{State, Call, judged, put, read, write}
 use Rattle.layout.specs.Machine.{Machine}
 use Rattle.access.specs.Access.{put_done, read_done, write_done}
 use Rattle.parttext.specs.declared.Line.{Line}

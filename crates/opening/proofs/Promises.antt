@@ -1,23 +1,23 @@
 -- Opening a text keeps its promise.
-use Rattle.std.proofs.Common.{◌≡◌, ℕ, zero, suc, ◌+◌, ◌<◌, ◌≤◌, Bool, true, false, cond, not, ltb, ◌≢◌, ◌⊎◌, List, [], ◌∷◌, length, get_or, is_some, Some, None, Ok, Err, MatchBool, Option, Result, sym, refl, ap, ◌∙◌, subst, inl, inr, arith}
+use Rattle.std.proofs.Common.{◌≡◌, ℕ, ◌<◌, Bool, true, false, not, ltb, List, length, is_some, Some, None, Ok, Err, MatchBool, Option, Result, sym, refl, ap, ◌∙◌, subst, arith}
 use Rattle.answers.specs.declared.Place.{Place}
 use Rattle.answers.specs.declared.Refusal.{Refusal}
-use Rattle.answers.specs.declared.Refusal.TheVariants.{Unknown, Short, NoForm, Foreign, TooLong}
+use Rattle.answers.specs.declared.Refusal.TheVariants.{Unknown, Short, Foreign, TooLong}
 use Rattle.answers.specs.declared.TextFault.{TextFault}
 use Rattle.answers.specs.Numbers.{place_of}
-use Rattle.graph.specs.Calls.{State, is_space}
+use Rattle.graph.specs.Calls.{State}
 use Rattle.layout.specs.Machine.{Machine}
 use Rattle.store.specs.Spaces.{space_at}
 use Rattle.store.specs.Checks.{admitted, long_enough}
 use Rattle.access.specs.Access.{with_space}
 use Rattle.lines.specs.Lines.{lines_of}
-use Rattle.promises.specs.Promise.{Depicts, short, Within, noted}
+use Rattle.promises.specs.Promise.{Depicts, Within, noted}
 use Rattle.laws.proofs.Promised.{Plain, judged-plain, noted-plain}
 use Rattle.laws.proofs.Freezing.{space_known, space-turned, shows-space}
 use Rattle.parttext.specs.declared.Line.{Line}
 use Rattle.parttext.specs.declared.Line.TheVariants.{Put, Symbol, Vector, Words, Read, Write}
 use Rattle.parttext.specs.declared.Line.TheVariants.{List as list, String as string}
-use Rattle.opening.specs.Opening.{line_call, plus, fault_at, Opened, Runs, Settled, text_limit, TextRunsAs, TextRuns, in_space, TextAnswers, fault_noted, TextPromised}
+use Rattle.opening.specs.Opening.{line_call, plus, fault_at, Opened, Runs, Settled, text_limit, TextRunsAs, TextRuns, in_space, fault_noted, TextPromised}
 use Rattle.opening.specs.Opening.Opened.{ended, granted, refused, formless}
 use Rattle.opening.proofs.Texts.{runs-within, runs-depicts}
 

@@ -1,14 +1,13 @@
 -- What the lines of a text do to a machine, they do to the graph.
-use Rattle.std.proofs.Common.{◌≡◌, ℕ, zero, suc, ◌+◌, ◌-◌, ◌^◌, ◌<◌, ◌≤◌, min, Bool, true, false, cond, not, ◌⊎◌, List, [], ◌∷◌, length, get_or, is_ok, Ok, Err, Result, sym, refl, ap, ◌∙◌, subst, inl, inr, arith}
+use Rattle.std.proofs.Common.{◌≡◌, ℕ, Bool, true, false, cond, not, List, [], ◌∷◌, length, get_or, is_ok, Ok, Err, Result, sym, refl, ap, ◌∙◌, subst, inl, inr, arith}
 use Rattle.answers.specs.declared.Refusal.{Refusal}
 use Rattle.answers.specs.declared.Refusal.TheVariants.{NoForm}
 use Rattle.answers.specs.declared.TextFault.{TextFault}
-use Rattle.graph.specs.Calls.{State, Call, judged, outcome}
+use Rattle.graph.specs.Calls.{State, judged, outcome}
 use Rattle.layout.specs.Machine.{Machine, start, windows}
 use Rattle.store.specs.Checks.{long_enough}
 use Rattle.parttext.specs.declared.Line.{Line}
-use Rattle.parttext.specs.Grammar.{Spells}
-use Rattle.promises.specs.Promise.{Depicts, Answers, short, Within, Stays}
+use Rattle.promises.specs.Promise.{Depicts, short, Within, Stays}
 use Rattle.opening.specs.Opening.{line_call, plus, fault_at, performed, Opened, LineRuns, Settled, summed, Runs}
 use Rattle.opening.specs.Opening.Runs.{ended, goes, stops}
 use Rattle.parttext.specs.declared.Line.TheVariants.{Put, Symbol, Vector, Words, Read, Write}

@@ -1,5 +1,5 @@
 -- A part text, line by line: what its calls do to a machine, and to the graph.
-use Rattle.std.specs.Prelude.{◌≡◌, ℕ, suc, ◌+◌, ◌-◌, ◌^◌, ◌<◌, min, Bool, true, false, not, ◌⊎◌, List, [], ◌∷◌, length, is_some, Some, Ok, Err, MatchBool, Result, nat_lt}
+use Rattle.std.specs.Prelude.{◌≡◌, ℕ, suc, ◌+◌, ◌-◌, ◌^◌, ◌<◌, min, Bool, false, not, ◌⊎◌, List, [], ◌∷◌, length, is_some, Some, Ok, Err, MatchBool, Result, nat_lt}
 use Rattle.answers.specs.declared.Refusal.{Refusal}
 use Rattle.answers.specs.declared.Refusal.TheVariants.{Unknown, Short, NoForm, Foreign, TooLong}
 use Rattle.answers.specs.declared.Place.{Place}

@@ -1,6 +1,6 @@
 -- One line of each form, written out.
 
-use Rattle.std.proofs.Common.{◌≡◌, pos, negsuc, codes, refl}
+use Rattle.std.proofs.Common.{◌≡◌, negsuc, codes, refl}
 use Rattle.std.specs.Fmt.{digits}
 use Rattle.words.specs.declared.literals.Literal.TheVariants.{Fixnum, Character, Null}
 use Rattle.parttext.specs.Grammar.{line_text}

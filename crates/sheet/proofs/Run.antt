@@ -1,6 +1,5 @@
 -- A text run on the heap of a sheet gives what its registers then hold.
-use Rattle.std.proofs.Common.{◌≡◌, ℕ, zero, suc, ◌<◌, ◌≤◌, Bool, true, false, not, ltb, leb, ◌⊎◌, List, map, length, get_or, replicate, IfOk, Ok, Err, MatchBool, Result, sym, refl, ap, ◌∙◌, subst, inl, inr, arith, MatchResult}
-use Rattle.std.proofs.lemmas.Bool.{cases_Bool, le-leb}
+use Rattle.std.proofs.Common.{◌≡◌, ℕ, Bool, true, false, not, ltb, List, length, replicate, IfOk, Ok, Err, MatchBool, Result, sym, refl, ap, ◌∙◌, subst, arith, MatchResult}
 use Rattle.answers.specs.declared.Told.{Told}
 use Rattle.answers.specs.declared.TextFault.{TextFault}
 use Rattle.answers.specs.declared.Refusal.{Refusal}
@@ -8,13 +7,13 @@ use Rattle.answers.specs.declared.Refusal.TheVariants.{Short, TooLong}
 use Rattle.graph.specs.Calls.{State}
 use Rattle.memory.proofs.Pasting.{length-pasted}
 use Rattle.layout.specs.Machine.{Machine}
-use Rattle.layout.specs.Fresh.{fresh_machine, starts_from}
+use Rattle.layout.specs.Fresh.{fresh_machine}
 use Rattle.store.specs.Checks.{long_enough}
 use Rattle.promises.specs.Promise.{Depicts, short}
 use Rattle.fresh.specs.Windows.{lengths, windows_fit, empty_state}
 use Rattle.fresh.specs.Made.{cleared, store_made}
 use Rattle.lines.specs.Lines.{lines_of}
-use Rattle.opening.specs.Opening.{text_limit, lined, fault_at, in_space, Opened, TextAnswers, TextPromised}
+use Rattle.opening.specs.Opening.{text_limit, lined, fault_at, in_space, Opened, TextPromised}
 use Rattle.opening.proofs.Texts.{enough-kept}
 use Rattle.heap.specs.declared.state.Heap.{Heap}
 use Rattle.heap.specs.View.{machine, shown_by}

@@ -1,16 +1,15 @@
 -- Registers told one after another.
-use Rattle.std.proofs.Common.{◌≡◌, ℕ, zero, suc, ◌+◌, ◌<◌, ◌≤◌, Bool, true, false, cond, not, ltb, ◌⊎◌, List, map, length, get_or, set, is_ok, Ok, Err, Result, sym, refl, ap, ◌∙◌, subst, inl, inr, arith}
+use Rattle.std.proofs.Common.{◌≡◌, ℕ, ◌+◌, ◌<◌, Bool, true, false, cond, not, List, length, get_or, set, is_ok, Ok, Err, Result, sym, refl, ap, ◌∙◌, subst, inl, inr, arith}
 use Rattle.std.proofs.lemmas.Bool.{le-ltb, cases_eq}
 use Rattle.answers.specs.declared.Told.{Told}
 use Rattle.answers.specs.declared.Refusal.{Refusal}
 use Rattle.graph.specs.Calls.{State, register, told, tell, outcome}
 use Rattle.layout.specs.Machine.{Machine}
-use Rattle.store.specs.Checks.{long_enough}
 use Rattle.promises.specs.Promise.{Depicts, Promised, short, Keeps, Within}
 use Rattle.access.specs.Access.{tell_done}
 use Rattle.opening.proofs.Texts.{enough-kept}
 use Rattle.sheet.specs.Sheet.{Still, all_told}
-use Rattle.graph.specs.Graph.{Value, plain, trap}
+use Rattle.graph.specs.Graph.{plain, trap}
 use Rattle.answers.specs.declared.Told.TheVariants.{Null}
 use Rattle.std.proofs.lemmas.List.{same_lists, length-map, get_or-map, get_or_default, get_or-set_same, get_or-set_other}
 

@@ -1,5 +1,5 @@
 -- Once the whole block fits, neither part is refused.
-use Rattle.std.proofs.Common.{◌≡◌, ◌+◌, ◌≤◌, true, false, leb, length, sym, refl, ap, ◌∙◌, arith, rules, leb-true}
+use Rattle.std.proofs.Common.{◌≡◌, ◌+◌, true, false, leb, length, refl, ap, ◌∙◌, arith, leb-true}
 use Rattle.memory.proofs.Pasting.{length-pasted}
 use Rattle.making.proofs.Emplaced.{emplaced-short, emplaced-both}
 use Rattle.making.proofs.emplace.Goals as goal

@@ -1,5 +1,5 @@
 -- A line that is refused ends the run, and one that is granted goes before the lines left.
-use Rattle.std.proofs.Common.{◌≡◌, ℕ, List, length, Err, Result, sym, ◌∙◌, rules}
+use Rattle.std.proofs.Common.{◌≡◌, ℕ, length, Err, Result, sym, ◌∙◌, rules}
 use Rattle.answers.specs.declared.TextFault.{TextFault}
 use Rattle.layout.specs.Machine.{Machine}
 use Rattle.store.specs.Spaces.{code_of}

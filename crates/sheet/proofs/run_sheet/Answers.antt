@@ -1,8 +1,6 @@
 -- The text is refused, or every register is told.
-use Rattle.std.proofs.Common.{◌≡◌, ℕ, Ok, Err, sym, ap, ◌∙◌}
+use Rattle.std.proofs.Common.{◌≡◌, Ok, Err, sym, ap, ◌∙◌}
 use Rattle.std.proofs.lemmas.Result.{err_from_is_err_and}
-use Rattle.answers.specs.declared.TextFault.{TextFault}
-use Rattle.heap.specs.View.{machine}
 use Rattle.sheet.proofs.Run.{sheet-gives, same-fault, no-fault}
 use Rattle.sheet.proofs.run_sheet.Goals as goal
 

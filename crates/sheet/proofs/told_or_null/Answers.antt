@@ -1,4 +1,4 @@
-use Rattle.std.proofs.Common.{◌≡◌, ℕ, sym, ◌∙◌, arith}
+use Rattle.std.proofs.Common.{sym, ◌∙◌}
 use Rattle.sheet.proofs.Telling.{tell-step, ok-part, err-none}
 use Rattle.sheet.proofs.told_or_null.Goals as goal
 
