@@ -5,6 +5,7 @@ mod tests {
     use answers::{Place, Refusal, TextFault};
     use heap::{Heap, Windows};
     use memory::{WordMemory, Words};
+    use std::process::Abort;
     use std::test::*;
     use words::Literal;
 
@@ -69,39 +70,36 @@ mod tests {
         }
 
         // The call is granted.
-        fn granted(self) -> Result<(), Fail> {
-            assert_eq!(
+        fn granted(self, rt: &impl Abort) {
+            assert_eq!(rt;
                 self,
                 Answer {
                     number: 0,
                     place: None,
                 }
             );
-            Ok(())
         }
 
         // The call is refused with this number, and names no place.
-        fn refused(self, number: u32) -> Result<(), Fail> {
-            assert_eq!(
+        fn refused(self, rt: &impl Abort, number: u32) {
+            assert_eq!(rt;
                 self,
                 Answer {
                     number,
                     place: None,
                 }
             );
-            Ok(())
         }
 
         // The call names a foreign word at this place.
-        fn foreign(self, place: usize) -> Result<(), Fail> {
-            assert_eq!(
+        fn foreign(self, rt: &impl Abort, place: usize) {
+            assert_eq!(rt;
                 self,
                 Answer {
                     number: 17,
                     place: Some(place),
                 }
             );
-            Ok(())
         }
     }
 
@@ -121,25 +119,25 @@ mod tests {
         }
 
         // A heap with a list of two nulls in register 0, at places 102 and 103.
-        fn listed() -> Result<Bench, Fail> {
+        fn listed(rt: &impl Abort) -> Result<Bench, Fail> {
             let mut bench = Bench::new([EIGHT; 5])?;
-            bench.list(0, 1, 1).granted()?;
+            bench.list(0, 1, 1).granted(rt);
             Ok(bench)
         }
 
         // A heap with a string of two characters in register 0, at places 29 to 31, and a symbol of that name in register 1, at
         // places 74 to 79.
-        fn named() -> Result<Bench, Fail> {
+        fn named(rt: &impl Abort) -> Result<Bench, Fail> {
             let mut bench = Bench::new([EIGHT; 5])?;
-            bench.string(0, 2).granted()?;
-            bench.symbol(1, 0).granted()?;
+            bench.string(0, 2).granted(rt);
+            bench.symbol(1, 0).granted(rt);
             Ok(bench)
         }
 
         // A heap with a B-Vector of two nulls in register 0, at places 53 to 55.
-        fn vectored() -> Result<Bench, Fail> {
+        fn vectored(rt: &impl Abort) -> Result<Bench, Fail> {
             let mut bench = Bench::new([EIGHT; 5])?;
-            bench.vector(0, 2, 1).granted()?;
+            bench.vector(0, 2, 1).granted(rt);
             Ok(bench)
         }
 
@@ -246,197 +244,218 @@ mod tests {
 
     // Foreign words in the cells of a list.
 
-    fn is_foreign_in_a_list(word: u32) -> Result<(), Fail> {
-        let mut bench = Bench::listed()?;
+    fn is_foreign_in_a_list(rt: &impl Abort, word: u32) -> Result<(), Fail> {
+        let mut bench = Bench::listed(rt)?;
         bench.poke(102, word)?;
-        bench.read(1, 0, 0).foreign(102)?;
-        bench.put(0, Literal::Null).foreign(102)
+        bench.read(1, 0, 0).foreign(rt, 102);
+        bench.put(0, Literal::Null).foreign(rt, 102);
+        Ok(())
     }
 
-    fn is_read_from_a_list(word: u32) -> Result<(), Fail> {
-        let mut bench = Bench::listed()?;
+    fn is_read_from_a_list(rt: &impl Abort, word: u32) -> Result<(), Fail> {
+        let mut bench = Bench::listed(rt)?;
         bench.poke(102, word)?;
-        bench.read(1, 0, 0).granted()?;
-        bench.put(0, Literal::Null).granted()
+        bench.read(1, 0, 0).granted(rt);
+        bench.put(0, Literal::Null).granted(rt);
+        Ok(())
     }
 
     #[test]
-    fn a_cell_that_means_nothing_is_foreign() -> Result<(), Fail> {
-        is_foreign_in_a_list(0x0200_0000)?;
-        is_foreign_in_a_list(0x0100_0100)?;
-        is_foreign_in_a_list(0x0500_0001)?;
-        is_foreign_in_a_list(0xF000_0018)
+    fn a_cell_that_means_nothing_is_foreign(rt: HostRuntime) -> Result<(), Fail> {
+        is_foreign_in_a_list(&rt, 0x0200_0000)?;
+        is_foreign_in_a_list(&rt, 0x0100_0100)?;
+        is_foreign_in_a_list(&rt, 0x0500_0001)?;
+        is_foreign_in_a_list(&rt, 0xF000_0018)
     }
 
     #[test]
-    fn an_unset_list_cell_is_foreign() -> Result<(), Fail> {
-        is_foreign_in_a_list(0)
+    fn an_unset_list_cell_is_foreign(rt: HostRuntime) -> Result<(), Fail> {
+        is_foreign_in_a_list(&rt, 0)
     }
 
     #[test]
-    fn a_pointer_to_words_that_are_not_in_use_is_foreign() -> Result<(), Fail> {
-        is_foreign_in_a_list(0xB000_0010)?;
-        is_foreign_in_a_list(0xB000_0014)?;
-        is_foreign_in_a_list(0xB000_001C)?;
-        is_foreign_in_a_list(0xBC00_0000)
+    fn a_pointer_to_words_that_are_not_in_use_is_foreign(rt: HostRuntime) -> Result<(), Fail> {
+        is_foreign_in_a_list(&rt, 0xB000_0010)?;
+        is_foreign_in_a_list(&rt, 0xB000_0014)?;
+        is_foreign_in_a_list(&rt, 0xB000_001C)?;
+        is_foreign_in_a_list(&rt, 0xBC00_0000)
     }
 
     #[test]
-    fn a_pointer_to_the_other_dynamic_space_is_foreign() -> Result<(), Fail> {
-        is_foreign_in_a_list(0xB400_0018)
+    fn a_pointer_to_the_other_dynamic_space_is_foreign(rt: HostRuntime) -> Result<(), Fail> {
+        is_foreign_in_a_list(&rt, 0xB400_0018)
     }
 
     #[test]
-    fn a_pointer_between_two_words_is_foreign() -> Result<(), Fail> {
-        is_foreign_in_a_list(0xB000_0019)
+    fn a_pointer_between_two_words_is_foreign(rt: HostRuntime) -> Result<(), Fail> {
+        is_foreign_in_a_list(&rt, 0xB000_0019)
     }
 
     #[test]
-    fn a_list_cell_that_a_call_could_have_left_is_read() -> Result<(), Fail> {
-        is_read_from_a_list(0xB000_0018)?;
-        is_read_from_a_list(0x1FFF_FFFF)
+    fn a_list_cell_that_a_call_could_have_left_is_read(rt: HostRuntime) -> Result<(), Fail> {
+        is_read_from_a_list(&rt, 0xB000_0018)?;
+        is_read_from_a_list(&rt, 0x1FFF_FFFF)
     }
 
     #[test]
-    fn a_foreign_cell_is_written_without_a_look() -> Result<(), Fail> {
-        let mut bench = Bench::listed()?;
+    fn a_foreign_cell_is_written_without_a_look(rt: HostRuntime) -> Result<(), Fail> {
+        let mut bench = Bench::listed(&rt)?;
         bench.poke(102, 0x0200_0000)?;
-        bench.write(0, 0, 1).granted()?;
-        bench.read(2, 0, 0).granted()
+        bench.write(0, 0, 1).granted(&rt);
+        bench.read(2, 0, 0).granted(&rt);
+        Ok(())
     }
 
     #[test]
-    fn a_dynamic_pointer_in_a_read_only_list_is_foreign() -> Result<(), Fail> {
-        let mut bench = Bench::listed()?;
-        bench.set_space(3).granted()?;
-        bench.list(2, 0, 1).refused(7)?;
-        bench.list(2, 1, 1).granted()?;
+    fn a_dynamic_pointer_in_a_read_only_list_is_foreign(rt: HostRuntime) -> Result<(), Fail> {
+        let mut bench = Bench::listed(&rt)?;
+        bench.set_space(3).granted(&rt);
+        bench.list(2, 0, 1).refused(&rt, 7);
+        bench.list(2, 1, 1).granted(&rt);
         bench.poke(112, 0xB000_0018)?;
-        bench.read(3, 2, 0).foreign(112)?;
-        bench.freeze().foreign(112)
+        bench.read(3, 2, 0).foreign(&rt, 112);
+        bench.freeze().foreign(&rt, 112);
+        Ok(())
     }
 
     // Foreign words in the cells of a symbol.
 
-    fn is_foreign_in_a_symbol(at: u32, place: usize, word: u32) -> Result<(), Fail> {
-        let mut bench = Bench::named()?;
+    fn is_foreign_in_a_symbol(
+        rt: &impl Abort,
+        at: u32,
+        place: usize,
+        word: u32,
+    ) -> Result<(), Fail> {
+        let mut bench = Bench::named(rt)?;
         bench.poke(place, word)?;
-        bench.read(2, 1, at).foreign(place)?;
-        bench.same(0, 0).foreign(place)
+        bench.read(2, 1, at).foreign(rt, place);
+        bench.same(0, 0).foreign(rt, place);
+        Ok(())
     }
 
     #[test]
-    fn a_symbol_just_made_has_no_value_and_no_properties() -> Result<(), Fail> {
-        let mut bench = Bench::named()?;
-        bench.read(2, 1, 0).refused(4)?;
-        bench.read(2, 1, 1).refused(4)?;
-        bench.read(2, 1, 2).granted()?;
-        bench.read(2, 1, 3).granted()
+    fn a_symbol_just_made_has_no_value_and_no_properties(rt: HostRuntime) -> Result<(), Fail> {
+        let mut bench = Bench::named(&rt)?;
+        bench.read(2, 1, 0).refused(&rt, 4);
+        bench.read(2, 1, 1).refused(&rt, 4);
+        bench.read(2, 1, 2).granted(&rt);
+        bench.read(2, 1, 3).granted(&rt);
+        Ok(())
     }
 
     #[test]
-    fn a_print_name_that_is_no_string_is_foreign() -> Result<(), Fail> {
-        is_foreign_in_a_symbol(3, 77, 0x1000_0007)?;
-        is_foreign_in_a_symbol(3, 77, 0x0500_0000)?;
-        is_foreign_in_a_symbol(3, 77, 0xA000_0008)
+    fn a_print_name_that_is_no_string_is_foreign(rt: HostRuntime) -> Result<(), Fail> {
+        is_foreign_in_a_symbol(&rt, 3, 77, 0x1000_0007)?;
+        is_foreign_in_a_symbol(&rt, 3, 77, 0x0500_0000)?;
+        is_foreign_in_a_symbol(&rt, 3, 77, 0xA000_0008)
     }
 
     #[test]
-    fn a_property_list_that_is_neither_null_nor_a_list_is_foreign() -> Result<(), Fail> {
-        is_foreign_in_a_symbol(2, 76, 0x1000_0007)?;
-        is_foreign_in_a_symbol(2, 76, 0x4000_0014)
+    fn a_property_list_that_is_neither_null_nor_a_list_is_foreign(
+        rt: HostRuntime,
+    ) -> Result<(), Fail> {
+        is_foreign_in_a_symbol(&rt, 2, 76, 0x1000_0007)?;
+        is_foreign_in_a_symbol(&rt, 2, 76, 0x4000_0014)
     }
 
     #[test]
-    fn only_the_value_and_the_definition_may_be_unset() -> Result<(), Fail> {
-        is_foreign_in_a_symbol(2, 76, 0)?;
-        is_foreign_in_a_symbol(3, 77, 0)?;
-        is_foreign_in_a_symbol(4, 78, 0)?;
-        is_foreign_in_a_symbol(5, 79, 0)
+    fn only_the_value_and_the_definition_may_be_unset(rt: HostRuntime) -> Result<(), Fail> {
+        is_foreign_in_a_symbol(&rt, 2, 76, 0)?;
+        is_foreign_in_a_symbol(&rt, 3, 77, 0)?;
+        is_foreign_in_a_symbol(&rt, 4, 78, 0)?;
+        is_foreign_in_a_symbol(&rt, 5, 79, 0)
     }
 
     // Foreign heads of vectors and strings.
 
     // The header of a B-Vector of two cells, at place 53.
-    fn is_foreign_as_a_header(word: u32) -> Result<(), Fail> {
-        let mut bench = Bench::vectored()?;
+    fn is_foreign_as_a_header(rt: &impl Abort, word: u32) -> Result<(), Fail> {
+        let mut bench = Bench::vectored(rt)?;
         bench.poke(53, word)?;
-        bench.read(1, 0, 0).foreign(53)?;
+        bench.read(1, 0, 0).foreign(rt, 53);
         bench.poke(53, 0x1000_0003)?;
-        bench.put(0, Literal::Null).foreign(53)
+        bench.put(0, Literal::Null).foreign(rt, 53);
+        Ok(())
     }
 
     // A word of a string of two characters: its header at place 29, or its second word at place 30.
-    fn is_foreign_in_a_string(place: usize, word: u32) -> Result<(), Fail> {
-        let mut bench = Bench::named()?;
+    fn is_foreign_in_a_string(rt: &impl Abort, place: usize, word: u32) -> Result<(), Fail> {
+        let mut bench = Bench::named(rt)?;
         bench.poke(place, word)?;
-        bench.tell(0).foreign(place)?;
-        bench.tell(1).foreign(place)
+        bench.tell(0).foreign(rt, place);
+        bench.tell(1).foreign(rt, place);
+        Ok(())
     }
 
     // The second word of a U-Vector of two entries of 16 bits, at place 6.
-    fn is_foreign_as_a_second_word(word: u32) -> Result<(), Fail> {
+    fn is_foreign_as_a_second_word(rt: &impl Abort, word: u32) -> Result<(), Fail> {
         let mut bench = Bench::new([EIGHT; 5])?;
-        bench.words(0, 2, 4).granted()?;
+        bench.words(0, 2, 4).granted(rt);
         bench.poke(6, word)?;
-        bench.write(0, 0, 1).foreign(6)?;
-        bench.list(1, 0, 0).foreign(6)
+        bench.write(0, 0, 1).foreign(rt, 6);
+        bench.list(1, 0, 0).foreign(rt, 6);
+        Ok(())
     }
 
     #[test]
-    fn a_header_of_more_words_than_are_in_use_is_foreign() -> Result<(), Fail> {
-        is_foreign_as_a_header(0x1000_0009)?;
-        is_foreign_as_a_header(0x1000_0004)?;
-        is_foreign_in_a_string(29, 0x1000_0004)
+    fn a_header_of_more_words_than_are_in_use_is_foreign(rt: HostRuntime) -> Result<(), Fail> {
+        is_foreign_as_a_header(&rt, 0x1000_0009)?;
+        is_foreign_as_a_header(&rt, 0x1000_0004)?;
+        is_foreign_in_a_string(&rt, 29, 0x1000_0004)
     }
 
     #[test]
-    fn a_header_with_a_subtype_is_foreign() -> Result<(), Fail> {
-        is_foreign_as_a_header(0x1100_0003)?;
-        is_foreign_as_a_header(0x1800_0003)?;
-        is_foreign_in_a_string(29, 0x1400_0003)
+    fn a_header_with_a_subtype_is_foreign(rt: HostRuntime) -> Result<(), Fail> {
+        is_foreign_as_a_header(&rt, 0x1100_0003)?;
+        is_foreign_as_a_header(&rt, 0x1800_0003)?;
+        is_foreign_in_a_string(&rt, 29, 0x1400_0003)
     }
 
     #[test]
-    fn a_header_of_another_type_is_foreign() -> Result<(), Fail> {
-        is_foreign_as_a_header(0x0000_0003)?;
-        is_foreign_in_a_string(29, 0x3000_0003)
+    fn a_header_of_another_type_is_foreign(rt: HostRuntime) -> Result<(), Fail> {
+        is_foreign_as_a_header(&rt, 0x0000_0003)?;
+        is_foreign_in_a_string(&rt, 29, 0x3000_0003)
     }
 
     #[test]
-    fn a_header_of_no_words_is_foreign() -> Result<(), Fail> {
-        is_foreign_as_a_header(0x1000_0000)
+    fn a_header_of_no_words_is_foreign(rt: HostRuntime) -> Result<(), Fail> {
+        is_foreign_as_a_header(&rt, 0x1000_0000)
     }
 
     #[test]
-    fn a_string_whose_header_names_too_few_words_is_foreign_at_its_count() -> Result<(), Fail> {
-        let mut bench = Bench::named()?;
+    fn a_string_whose_header_names_too_few_words_is_foreign_at_its_count(
+        rt: HostRuntime,
+    ) -> Result<(), Fail> {
+        let mut bench = Bench::named(&rt)?;
         bench.poke(29, 0x1000_0002)?;
-        bench.tell(0).foreign(30)?;
-        bench.tell(0).foreign(30)
+        bench.tell(0).foreign(&rt, 30);
+        bench.tell(0).foreign(&rt, 30);
+        Ok(())
     }
 
     #[test]
-    fn a_string_of_another_access_type_is_foreign() -> Result<(), Fail> {
-        is_foreign_in_a_string(30, 0x2000_0002)
+    fn a_string_of_another_access_type_is_foreign(rt: HostRuntime) -> Result<(), Fail> {
+        is_foreign_in_a_string(&rt, 30, 0x2000_0002)
     }
 
     #[test]
-    fn a_count_that_does_not_fit_the_header_is_foreign() -> Result<(), Fail> {
-        is_foreign_in_a_string(30, 0x3000_0005)?;
-        is_foreign_in_a_string(30, 0x3000_0000)?;
-        is_foreign_as_a_second_word(0x4000_0003)?;
-        is_foreign_as_a_second_word(0x5000_0002)
+    fn a_count_that_does_not_fit_the_header_is_foreign(rt: HostRuntime) -> Result<(), Fail> {
+        is_foreign_in_a_string(&rt, 30, 0x3000_0005)?;
+        is_foreign_in_a_string(&rt, 30, 0x3000_0000)?;
+        is_foreign_as_a_second_word(&rt, 0x4000_0003)?;
+        is_foreign_as_a_second_word(&rt, 0x5000_0002)
     }
 
     #[test]
-    fn a_count_over_the_limit_is_foreign() -> Result<(), Fail> {
-        is_foreign_in_a_string(30, 0x3000_FFFF)?;
-        is_foreign_as_a_second_word(0x4FFF_FFFF)
+    fn a_count_over_the_limit_is_foreign(rt: HostRuntime) -> Result<(), Fail> {
+        is_foreign_in_a_string(&rt, 30, 0x3000_FFFF)?;
+        is_foreign_as_a_second_word(&rt, 0x4FFF_FFFF)
     }
 
     #[test]
-    fn a_count_over_the_limit_is_foreign_even_where_its_words_fit_the_header() -> Result<(), Fail> {
+    fn a_count_over_the_limit_is_foreign_even_where_its_words_fit_the_header(
+        rt: HostRuntime,
+    ) -> Result<(), Fail> {
         let mut bench = Bench::new([
             Windows {
                 dynamic: 0,
@@ -448,66 +467,73 @@ mod tests {
             NONE,
             NONE,
         ])?;
-        bench.set_space(2).granted()?;
-        bench.words(0, 65_534, 0).granted()?;
-        bench.tell(0).granted()?;
+        bench.set_space(2).granted(&rt);
+        bench.words(0, 65_534, 0).granted(&rt);
+        bench.tell(0).granted(&rt);
         bench.poke(1, 0x0000_FFFF)?;
-        bench.tell(0).foreign(1)?;
-        bench.tell(1).foreign(1)
+        bench.tell(0).foreign(&rt, 1);
+        bench.tell(1).foreign(&rt, 1);
+        Ok(())
     }
 
     // A foreign word that was found.
 
     // A heap that has found a foreign word at place 102; the word has been put right since.
-    fn broken() -> Result<Bench, Fail> {
-        let mut bench = Bench::listed()?;
+    fn broken(rt: &impl Abort) -> Result<Bench, Fail> {
+        let mut bench = Bench::listed(rt)?;
         bench.poke(102, 0x0200_0000)?;
-        bench.read(1, 0, 0).foreign(102)?;
+        bench.read(1, 0, 0).foreign(rt, 102);
         bench.poke(102, 0x0500_0000)?;
         Ok(bench)
     }
 
     #[test]
-    fn every_making_names_a_foreign_word_again() -> Result<(), Fail> {
-        let mut bench = broken()?;
-        bench.list(1, 0, 0).foreign(102)?;
-        bench.symbol(1, 0).foreign(102)?;
-        bench.vector(1, 1, 0).foreign(102)?;
-        bench.string(1, 1).foreign(102)?;
-        bench.words(1, 1, 0).foreign(102)
+    fn every_making_names_a_foreign_word_again(rt: HostRuntime) -> Result<(), Fail> {
+        let mut bench = broken(&rt)?;
+        bench.list(1, 0, 0).foreign(&rt, 102);
+        bench.symbol(1, 0).foreign(&rt, 102);
+        bench.vector(1, 1, 0).foreign(&rt, 102);
+        bench.string(1, 1).foreign(&rt, 102);
+        bench.words(1, 1, 0).foreign(&rt, 102);
+        Ok(())
     }
 
     #[test]
-    fn every_reading_and_writing_names_a_foreign_word_again() -> Result<(), Fail> {
-        let mut bench = broken()?;
-        bench.put(1, Literal::Null).foreign(102)?;
-        bench.read(1, 0, 0).foreign(102)?;
-        bench.write(0, 0, 1).foreign(102)?;
-        bench.tell(0).foreign(102)?;
-        bench.same(0, 0).foreign(102)
+    fn every_reading_and_writing_names_a_foreign_word_again(rt: HostRuntime) -> Result<(), Fail> {
+        let mut bench = broken(&rt)?;
+        bench.put(1, Literal::Null).foreign(&rt, 102);
+        bench.read(1, 0, 0).foreign(&rt, 102);
+        bench.write(0, 0, 1).foreign(&rt, 102);
+        bench.tell(0).foreign(&rt, 102);
+        bench.same(0, 0).foreign(&rt, 102);
+        Ok(())
     }
 
     #[test]
-    fn setting_the_space_and_freezing_name_a_foreign_word_again() -> Result<(), Fail> {
-        let mut bench = broken()?;
-        bench.set_space(0).foreign(102)?;
-        bench.freeze().foreign(102)
+    fn setting_the_space_and_freezing_name_a_foreign_word_again(
+        rt: HostRuntime,
+    ) -> Result<(), Fail> {
+        let mut bench = broken(&rt)?;
+        bench.set_space(0).foreign(&rt, 102);
+        bench.freeze().foreign(&rt, 102);
+        Ok(())
     }
 
     #[test]
     fn a_line_that_finds_a_foreign_word_ends_the_text(rt: HostRuntime) -> Result<(), Fail> {
-        let mut bench = Bench::listed()?;
+        let mut bench = Bench::listed(&rt)?;
         bench.poke(103, 0x0200_0000)?;
         let (line, answer) = bench.open_text(
             0,
             b"op=put to=5 value=f1\nop=read to=1 from=0 at=1\nop=put to=5 value=n\n",
         );
         assert!(rt; line == 2);
-        answer.foreign(103)?;
-        bench.tell(5).foreign(103)?;
+        answer.foreign(&rt, 103);
+        bench.tell(5).foreign(&rt, 103);
         let (line, answer) = bench.open_text(0, b"");
         assert!(rt; line == 0);
-        answer.foreign(103)
+        answer.foreign(&rt, 103);
+        Ok(())
     }
 
     // The order of the refusals, where several hold.
@@ -516,98 +542,110 @@ mod tests {
     fn a_foreign_word_found_before_comes_before_every_other_refusal(
         rt: HostRuntime,
     ) -> Result<(), Fail> {
-        let mut bench = broken()?;
-        bench.put(16, Literal::Null).foreign(102)?;
-        bench.set_space(1).foreign(102)?;
-        bench.read_short(16, 0, 0).foreign(102)?;
+        let mut bench = broken(&rt)?;
+        bench.put(16, Literal::Null).foreign(&rt, 102);
+        bench.set_space(1).foreign(&rt, 102);
+        bench.read_short(16, 0, 0).foreign(&rt, 102);
         let (line, answer) = bench.open_text_short(1, &LONG);
         assert!(rt; line == 0);
-        answer.foreign(102)
+        answer.foreign(&rt, 102);
+        Ok(())
     }
 
     #[test]
-    fn an_unknown_register_comes_before_a_short_loan_and_that_before_the_kind() -> Result<
-        (),
-        Fail,
-    > {
+    fn an_unknown_register_comes_before_a_short_loan_and_that_before_the_kind(
+        rt: HostRuntime,
+    ) -> Result<(), Fail> {
         let mut bench = Bench::new([EIGHT; 5])?;
-        bench.read_short(16, 0, 0).refused(1)?;
-        bench.read_short(0, 0, 0).refused(15)?;
-        bench.read(0, 0, 9).refused(2)?;
-        bench.symbol(0, 0).refused(2)
+        bench.read_short(16, 0, 0).refused(&rt, 1);
+        bench.read_short(0, 0, 0).refused(&rt, 15);
+        bench.read(0, 0, 9).refused(&rt, 2);
+        bench.symbol(0, 0).refused(&rt, 2);
+        Ok(())
     }
 
     #[test]
-    fn a_value_without_a_word_and_a_count_over_the_limit_are_out_of_bounds() -> Result<(), Fail> {
+    fn a_value_without_a_word_and_a_count_over_the_limit_are_out_of_bounds(
+        rt: HostRuntime,
+    ) -> Result<(), Fail> {
         let mut bench = Bench::new([NONE; 5])?;
-        bench.put(0, Literal::Character(256)).refused(3)?;
-        bench.vector(0, 65_535, 0).refused(3)?;
-        bench.vector(0, 65_534, 0).refused(8)?;
-        bench.string(0, 65_535).refused(3)?;
-        bench.words(0, 65_535, 4).refused(3)?;
-        bench.words(0, 65_535, 5).refused(1)
+        bench.put(0, Literal::Character(256)).refused(&rt, 3);
+        bench.vector(0, 65_535, 0).refused(&rt, 3);
+        bench.vector(0, 65_534, 0).refused(&rt, 8);
+        bench.string(0, 65_535).refused(&rt, 3);
+        bench.words(0, 65_535, 4).refused(&rt, 3);
+        bench.words(0, 65_535, 5).refused(&rt, 1);
+        Ok(())
     }
 
     #[test]
-    fn an_index_out_of_bounds_comes_before_a_value_that_does_not_fit() -> Result<(), Fail> {
-        let mut bench = Bench::named()?;
-        bench.write(0, 2, 3).refused(3)?;
-        bench.write(0, 1, 3).refused(5)?;
-        bench.put(3, Literal::Character(65)).granted()?;
-        bench.write(0, 2, 3).refused(3)?;
-        bench.write(0, 1, 3).granted()
+    fn an_index_out_of_bounds_comes_before_a_value_that_does_not_fit(
+        rt: HostRuntime,
+    ) -> Result<(), Fail> {
+        let mut bench = Bench::named(&rt)?;
+        bench.write(0, 2, 3).refused(&rt, 3);
+        bench.write(0, 1, 3).refused(&rt, 5);
+        bench.put(3, Literal::Character(65)).granted(&rt);
+        bench.write(0, 2, 3).refused(&rt, 3);
+        bench.write(0, 1, 3).granted(&rt);
+        Ok(())
     }
 
     #[test]
-    fn a_value_that_does_not_fit_comes_before_a_frozen_object() -> Result<(), Fail> {
+    fn a_value_that_does_not_fit_comes_before_a_frozen_object(rt: HostRuntime) -> Result<(), Fail> {
         let mut bench = Bench::new([EIGHT; 5])?;
-        bench.set_space(3).granted()?;
-        bench.string(0, 2).granted()?;
-        bench.freeze().granted()?;
-        bench.write(0, 2, 3).refused(3)?;
-        bench.write(0, 1, 3).refused(5)?;
-        bench.put(3, Literal::Character(65)).granted()?;
-        bench.write(0, 1, 3).refused(6)
+        bench.set_space(3).granted(&rt);
+        bench.string(0, 2).granted(&rt);
+        bench.freeze().granted(&rt);
+        bench.write(0, 2, 3).refused(&rt, 3);
+        bench.write(0, 1, 3).refused(&rt, 5);
+        bench.put(3, Literal::Character(65)).granted(&rt);
+        bench.write(0, 1, 3).refused(&rt, 6);
+        Ok(())
     }
 
     #[test]
-    fn a_frozen_object_comes_before_a_dynamic_pointer() -> Result<(), Fail> {
-        let mut bench = Bench::listed()?;
-        bench.set_space(3).granted()?;
-        bench.list(1, 2, 2).granted()?;
-        bench.write(1, 0, 0).refused(7)?;
-        bench.freeze().granted()?;
-        bench.write(1, 0, 0).refused(6)?;
-        bench.write(1, 0, 2).refused(6)
+    fn a_frozen_object_comes_before_a_dynamic_pointer(rt: HostRuntime) -> Result<(), Fail> {
+        let mut bench = Bench::listed(&rt)?;
+        bench.set_space(3).granted(&rt);
+        bench.list(1, 2, 2).granted(&rt);
+        bench.write(1, 0, 0).refused(&rt, 7);
+        bench.freeze().granted(&rt);
+        bench.write(1, 0, 0).refused(&rt, 6);
+        bench.write(1, 0, 2).refused(&rt, 6);
+        Ok(())
     }
 
     #[test]
-    fn a_dynamic_pointer_comes_before_no_room() -> Result<(), Fail> {
-        let mut bench = Bench::listed()?;
-        bench.set_space(3).granted()?;
-        bench.vector(1, 65_535, 0).refused(3)?;
-        bench.vector(1, 8, 0).refused(7)?;
-        bench.vector(1, 8, 2).refused(8)?;
-        bench.vector(1, 7, 2).granted()?;
-        bench.vector(1, 0, 0).refused(8)
+    fn a_dynamic_pointer_comes_before_no_room(rt: HostRuntime) -> Result<(), Fail> {
+        let mut bench = Bench::listed(&rt)?;
+        bench.set_space(3).granted(&rt);
+        bench.vector(1, 65_535, 0).refused(&rt, 3);
+        bench.vector(1, 8, 0).refused(&rt, 7);
+        bench.vector(1, 8, 2).refused(&rt, 8);
+        bench.vector(1, 7, 2).granted(&rt);
+        bench.vector(1, 0, 0).refused(&rt, 8);
+        Ok(())
     }
 
     #[test]
-    fn a_foreign_header_comes_before_an_index_out_of_bounds() -> Result<(), Fail> {
-        let mut bench = Bench::vectored()?;
-        bench.read(1, 0, 2).refused(3)?;
+    fn a_foreign_header_comes_before_an_index_out_of_bounds(rt: HostRuntime) -> Result<(), Fail> {
+        let mut bench = Bench::vectored(&rt)?;
+        bench.read(1, 0, 2).refused(&rt, 3);
         bench.poke(53, 0x1000_0000)?;
-        bench.read(1, 0, 2).foreign(53)?;
-        bench.read(1, 0, 2).foreign(53)
+        bench.read(1, 0, 2).foreign(&rt, 53);
+        bench.read(1, 0, 2).foreign(&rt, 53);
+        Ok(())
     }
 
     #[test]
-    fn an_index_out_of_bounds_comes_before_a_foreign_cell() -> Result<(), Fail> {
-        let mut bench = Bench::listed()?;
+    fn an_index_out_of_bounds_comes_before_a_foreign_cell(rt: HostRuntime) -> Result<(), Fail> {
+        let mut bench = Bench::listed(&rt)?;
         bench.poke(103, 0x0200_0000)?;
-        bench.read(1, 0, 2).refused(3)?;
-        bench.read(1, 0, 1).foreign(103)?;
-        bench.read(1, 0, 2).foreign(103)
+        bench.read(1, 0, 2).refused(&rt, 3);
+        bench.read(1, 0, 1).foreign(&rt, 103);
+        bench.read(1, 0, 2).foreign(&rt, 103);
+        Ok(())
     }
 
     // What making a heap with this window answers in a memory of eleven words.
@@ -629,11 +667,12 @@ mod tests {
     }
 
     #[test]
-    fn a_window_over_the_limit_comes_before_a_short_memory() -> Result<(), Fail> {
-        made_in_eleven(65_537).refused(3)?;
-        made_in_eleven(65_536).refused(15)?;
-        made_in_eleven(12).refused(15)?;
-        made_in_eleven(11).granted()
+    fn a_window_over_the_limit_comes_before_a_short_memory(rt: HostRuntime) -> Result<(), Fail> {
+        made_in_eleven(65_537).refused(&rt, 3);
+        made_in_eleven(65_536).refused(&rt, 15);
+        made_in_eleven(12).refused(&rt, 15);
+        made_in_eleven(11).granted(&rt);
+        Ok(())
     }
 
     #[test]
@@ -643,13 +682,14 @@ mod tests {
         let mut bench = Bench::new([EIGHT; 5])?;
         let (line, answer) = bench.open_text_short(1, &LONG);
         assert!(rt; line == 0);
-        answer.refused(1)?;
+        answer.refused(&rt, 1);
         let (line, answer) = bench.open_text_short(0, &LONG);
         assert!(rt; line == 0);
-        answer.refused(15)?;
+        answer.refused(&rt, 15);
         let (line, answer) = bench.open_text(0, &LONG);
         assert!(rt; line == 0);
-        answer.refused(18)
+        answer.refused(&rt, 18);
+        Ok(())
     }
 
     #[test]
@@ -657,6 +697,7 @@ mod tests {
         let mut bench = Bench::new([EIGHT; 5])?;
         let (line, answer) = bench.open_text(0, &LONG[1..]);
         assert!(rt; line == 1);
-        answer.refused(16)
+        answer.refused(&rt, 16);
+        Ok(())
     }
 }
