@@ -9,7 +9,7 @@ mod tests {
     use std::test::*;
     use words::Literal;
 
-    const NONE: Windows = Windows {
+    const EMPTY: Windows = Windows {
         dynamic: 0,
         fixed: 0,
         read_only: 0,
@@ -261,7 +261,7 @@ mod tests {
     }
 
     #[test]
-    fn a_cell_that_means_nothing_is_foreign(rt: HostRuntime) -> Result<(), Fail> {
+    fn a_cell_that_means_nothing_is_foreign_at_its_place(rt: HostRuntime) -> Result<(), Fail> {
         is_foreign_in_a_list(&rt, 0x0200_0000)?;
         is_foreign_in_a_list(&rt, 0x0100_0100)?;
         is_foreign_in_a_list(&rt, 0x0500_0001)?;
@@ -269,7 +269,7 @@ mod tests {
     }
 
     #[test]
-    fn an_unset_list_cell_is_foreign(rt: HostRuntime) -> Result<(), Fail> {
+    fn an_unset_list_cell_is_foreign_at_its_place(rt: HostRuntime) -> Result<(), Fail> {
         is_foreign_in_a_list(&rt, 0)
     }
 
@@ -292,7 +292,9 @@ mod tests {
     }
 
     #[test]
-    fn a_list_cell_that_a_call_could_have_left_is_read(rt: HostRuntime) -> Result<(), Fail> {
+    fn a_list_cell_that_a_call_could_have_left_is_no_foreign_word(
+        rt: HostRuntime,
+    ) -> Result<(), Fail> {
         is_read_from_a_list(&rt, 0xB000_0018)?;
         is_read_from_a_list(&rt, 0x1FFF_FFFF)
     }
@@ -307,7 +309,9 @@ mod tests {
     }
 
     #[test]
-    fn a_dynamic_pointer_in_a_read_only_list_is_foreign(rt: HostRuntime) -> Result<(), Fail> {
+    fn a_dynamic_pointer_in_a_read_only_list_is_foreign_at_its_place(
+        rt: HostRuntime,
+    ) -> Result<(), Fail> {
         let mut bench = Bench::listed(&rt)?;
         bench.set_space(3).granted(&rt);
         bench.list(2, 0, 1).refused(&rt, 7);
@@ -344,7 +348,7 @@ mod tests {
     }
 
     #[test]
-    fn a_print_name_that_is_no_string_is_foreign(rt: HostRuntime) -> Result<(), Fail> {
+    fn a_print_name_that_is_no_string_is_foreign_at_its_place(rt: HostRuntime) -> Result<(), Fail> {
         is_foreign_in_a_symbol(&rt, 3, 77, 0x1000_0007)?;
         is_foreign_in_a_symbol(&rt, 3, 77, 0x0500_0000)?;
         is_foreign_in_a_symbol(&rt, 3, 77, 0xA000_0008)
@@ -434,7 +438,9 @@ mod tests {
     }
 
     #[test]
-    fn a_string_of_another_access_type_is_foreign(rt: HostRuntime) -> Result<(), Fail> {
+    fn a_string_of_another_access_type_is_foreign_at_its_place(
+        rt: HostRuntime,
+    ) -> Result<(), Fail> {
         is_foreign_in_a_string(&rt, 30, 0x2000_0002)
     }
 
@@ -462,10 +468,10 @@ mod tests {
                 fixed: 2_050,
                 read_only: 0,
             },
-            NONE,
-            NONE,
-            NONE,
-            NONE,
+            EMPTY,
+            EMPTY,
+            EMPTY,
+            EMPTY,
         ])?;
         bench.set_space(2).granted(&rt);
         bench.words(0, 65_534, 0).granted(&rt);
@@ -568,7 +574,7 @@ mod tests {
     fn a_value_without_a_word_and_a_count_over_the_limit_are_out_of_bounds(
         rt: HostRuntime,
     ) -> Result<(), Fail> {
-        let mut bench = Bench::new([NONE; 5])?;
+        let mut bench = Bench::new([EMPTY; 5])?;
         bench.put(0, Literal::Character(256)).refused(&rt, 3);
         bench.vector(0, 65_535, 0).refused(&rt, 3);
         bench.vector(0, 65_534, 0).refused(&rt, 8);
@@ -653,10 +659,10 @@ mod tests {
         let mut few = [0; 11];
         let mut memory = Words(&mut few);
         let windows = [
-            NONE,
-            NONE,
-            NONE,
-            NONE,
+            EMPTY,
+            EMPTY,
+            EMPTY,
+            EMPTY,
             Windows {
                 dynamic: 0,
                 fixed,
