@@ -9,7 +9,7 @@ mod tests {
     use heap::{Heap, Windows};
     use memory::{Halves, WordMemory, Words};
     use std::process::Abort;
-    use std::test::*;
+    use std::test::Fail;
     use words::Literal;
 
     const NONE: Windows = Windows {

@@ -6,7 +6,7 @@ mod tests {
     use heap::{Heap, Windows};
     use memory::{WordMemory, Words};
     use std::process::Abort;
-    use std::test::*;
+    use std::test::Fail;
     use words::Literal;
 
     const EMPTY: Windows = Windows {
