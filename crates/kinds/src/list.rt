@@ -48,6 +48,7 @@ impl Kind {
         }
     }
 
+    /// The constants of the kind.
     pub fn shape(self) -> Shape
         ensures { result ≡ shape_of self }
     {

@@ -21,12 +21,16 @@ pub struct Shape {
 
 /// A kind of object: its type code, whether its cells are boxed, its size, and what its cells take.
 pub trait ObjectKind {
+    /// The type code of its pointers.
     const CODE: u32;
 
+    /// Its cells are words that hold values.
     const BOXED: bool;
 
+    // The kind that this is.
     ghost kind: { Kind };
 
+    /// The constants of the kind, these two among them.
     fn shape() -> Shape
         ensures { result ≡ shape_of kind };
 

@@ -28,6 +28,7 @@ fn is_string(w: u32) -> bool
     matches!(class_of(w), Some(Class::Pointer(Kind::String)))
 }
 
+/// Makes a list of what two registers hold.
 pub fn make_list<M: WordMemory>(
     store: &mut Store,
     memory: &mut M,
@@ -55,6 +56,7 @@ pub fn make_list<M: WordMemory>(
     make(store, memory, Kind::List, space, &head, 0, 0, to as usize)
 }
 
+/// Makes a symbol whose print name is the string in a register.
 pub fn make_symbol<M: WordMemory>(
     store: &mut Store,
     memory: &mut M,
@@ -80,6 +82,7 @@ pub fn make_symbol<M: WordMemory>(
     make(store, memory, Kind::Symbol, space, &head, 0, 0, to as usize)
 }
 
+/// Makes a vector of so many entries, each what a register holds.
 pub fn make_vector<M: WordMemory>(
     store: &mut Store,
     memory: &mut M,
@@ -150,6 +153,7 @@ fn make_packed<M: WordMemory>(
     )
 }
 
+/// Makes a string of so many characters, all with code 0.
 pub fn make_string<M: WordMemory>(
     store: &mut Store,
     memory: &mut M,
@@ -167,6 +171,7 @@ pub fn make_string<M: WordMemory>(
     make_packed(store, memory, Kind::String, space, STRING_ACCESS, count, to)
 }
 
+/// Makes an unboxed vector of so many entries of an access type, all 0.
 pub fn make_words<M: WordMemory>(
     store: &mut Store,
     memory: &mut M,

@@ -26,12 +26,15 @@ pub trait WordMemory {
     // The slice that the memory borrows, which stays the same one.
     ghost lender: { Self → GName };
 
+    /// How many words there are.
     fn len(&self) -> usize
         ensures { result ≡ length (words self.now) };
 
+    /// The word at place i, refused where there is none.
     fn read(&self, i: usize) -> Result<u32, OutOfRange>
         ensures { Reads (words self.now) i result };
 
+    /// Puts a word at place i and changes no other; refused, with no change, where there is none.
     fn write(&mut self, i: usize, w: u32) -> Result<(), OutOfRange>
         ensures after { Writes (words self.old) i w (words self.new) result }
         ensures lender { lender self.new ≡ lender self.old };
