@@ -1,12 +1,17 @@
 // What is sent back in place of an answer, with its number.
 #![tactic(auto)]
 
-ghost use Rattle.std.specs.Prelude.{◌≡◌};
+ghost use Rattle.std.specs.Prelude.{◌≡◌, Some};
 ghost use Rattle.answers.specs.Numbers.{number_of, place_of};
-ghost use Rattle.answers.specs.declared.Refusal.TheVariants.{Short, NoForm as no_form};
+ghost use Rattle.answers.specs.Shown.{fault_shown, told_shown};
+ghost use Rattle.answers.specs.declared.Refusal.TheVariants.{Unknown, WrongKind, OutOfBounds, Short, NoForm as no_form};
 
+use kinds::{Kind, UnknownKind};
 use memory::OutOfRange;
 use numerals::NoForm;
+use spaces::{Space, UnknownSpace};
+use std::fmt;
+use words::NoWord;
 
 /// What a register holds.
 #[derive(Clone, Copy, PartialEq, Eq, Debug)]
@@ -14,8 +19,26 @@ pub enum Told {
     Fixnum(i32),
     Character(u32),
     Null,
-    /// An object: the type code of its kind, its space (0 for both dynamic ones), how many cells or entries it has.
-    Object { code: u32, space: u32, cells: u32 },
+    /// An object: its kind, its space (both dynamic ones are one), how many cells or entries it has.
+    Object {
+        kind: Kind,
+        space: Space,
+        cells: u32,
+    },
+}
+
+/// A value as a part text writes it, an object by the type code of its kind.
+impl fmt::Display for Told {
+    ghost output = { λ told. Some (told_shown told) };
+
+    fn fmt<W: fmt::Write>(&self, f: &mut fmt::Formatter<W>) -> fmt::Result {
+        match self {
+            Told::Fixnum(value) => write!(f, "f{value}"),
+            Told::Character(code) => write!(f, "c{code}"),
+            Told::Null => f.write_str("n"),
+            Told::Object { kind, .. } => write!(f, "o{}", kind.shape().code),
+        }
+    }
 }
 
 /// Where a word lies that no call could have left.
@@ -71,6 +94,7 @@ pub enum Refusal {
 }
 
 impl Refusal {
+    // A method, since `u32::from(refusal)` is no plainer than `refusal.number()`.
     /// The number that users know the refusal by.
     pub fn number(self) -> u32
         ensures { result ≡ number_of self }
@@ -113,6 +137,42 @@ impl Refusal {
 pub struct TextFault {
     pub line: u64,
     pub refusal: Refusal,
+}
+
+/// The refused line, and the refusal by its number.
+impl fmt::Display for TextFault {
+    ghost output = { λ fault. Some (fault_shown fault) };
+
+    fn fmt<W: fmt::Write>(&self, f: &mut fmt::Formatter<W>) -> fmt::Result {
+        write!(f, "line={} refusal={}", self.line, self.refusal.number())
+    }
+}
+
+/// A number that no space has.
+impl From<UnknownSpace> for Refusal {
+    ghost from_gives = { λ _ r. r ≡ Unknown };
+
+    fn from(_fault: UnknownSpace) -> Refusal {
+        Refusal::Unknown
+    }
+}
+
+/// A literal that has no word.
+impl From<NoWord> for Refusal {
+    ghost from_gives = { λ _ r. r ≡ OutOfBounds };
+
+    fn from(_fault: NoWord) -> Refusal {
+        Refusal::OutOfBounds
+    }
+}
+
+/// A type code that no kind has: the word leads to no object.
+impl From<UnknownKind> for Refusal {
+    ghost from_gives = { λ _ r. r ≡ WrongKind };
+
+    fn from(_fault: UnknownKind) -> Refusal {
+        Refusal::WrongKind
+    }
 }
 
 /// A place that the memory does not have: it is shorter than the windows.

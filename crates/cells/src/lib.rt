@@ -6,7 +6,7 @@ ghost use Rattle.store.specs.View.{table_of};
 ghost use Rattle.cells.specs.Cells.{cell_place, entry_place, leads_on, believed, loaded, fits_cell, frozen_cell, saved};
 
 use answers::{Place, Refusal};
-use kinds::{Class, class_of, entry_number};
+use kinds::{Class, entry_number};
 use memory::WordMemory;
 use objects::Opened;
 use store::{Store, is_dynamic};
@@ -40,14 +40,13 @@ fn leads_on(store: &Store, object: Opened, w: u32, class: Class) -> bool
 }
 
 /// The word that cell `k` holds, where a call could have left it there.
+#[tactic(auto, unfolding(crate::specs::Cells::believed))]
 fn believe(store: &Store, object: Opened, k: u32, w: u32) -> Result<u32, Refusal>
     ensures { result ≡ believed (table_of store.now) object k w }
 {
     let kind = object.kind;
     let foreign = Refusal::Foreign(Place::Memory(cell_place(object, k)));
-    let Some(class) = class_of(w) else {
-        return Err(foreign);
-    };
+    let class = Class::try_from(w).or(Err(foreign))?;
     if class == Class::Unset && kind.starts_unset(k as usize) {
         return Err(Refusal::Unset);
     }
@@ -59,6 +58,7 @@ fn believe(store: &Store, object: Opened, k: u32, w: u32) -> Result<u32, Refusal
 }
 
 /// The word of cell or entry `k`.
+#[tactic(auto, unfolding(crate::specs::Cells::loaded))]
 pub fn load<M: WordMemory>(
     store: &Store,
     memory: &M,
@@ -76,17 +76,19 @@ pub fn load<M: WordMemory>(
 }
 
 /// Cell or entry `k` can take the word.
+#[tactic(auto, unfolding(crate::specs::Cells::fits_cell))]
 pub fn can_take(object: Opened, k: u32, w: u32) -> bool
     ensures { result ≡ fits_cell object k w }
 {
-    match class_of(w) {
-        None => false,
-        Some(class) => object.kind.accepts(k as usize, class)
+    match Class::try_from(w) {
+        Err(_) => false,
+        Ok(class) => object.kind.accepts(k as usize, class)
             && (object.kind.shape().boxed || entry_number(w) < words::entry_range(object.access)),
     }
 }
 
 /// The object takes no writes.
+#[tactic(auto, unfolding(crate::specs::Cells::frozen_cell))]
 pub fn is_frozen(store: &Store, object: Opened) -> bool
     ensures { result ≡ frozen_cell (table_of store.now) object }
 {
@@ -94,6 +96,7 @@ pub fn is_frozen(store: &Store, object: Opened) -> bool
 }
 
 /// Cell or entry `k` becomes the word.
+#[tactic(auto, unfolding(crate::specs::Cells::saved))]
 pub fn save<M: WordMemory>(memory: &mut M, object: Opened, k: u32, w: u32) -> Result<(), Refusal>
     ensures saves { (M.WordMemory.words memory.new, result) ≡ saved object k w (M.WordMemory.words memory.old) }
     ensures lender { M.WordMemory.lender memory.new ≡ M.WordMemory.lender memory.old }

@@ -1,13 +1,14 @@
 // The fields of a line: `key=value` one after another, each a part of the caller's text.
 #![tactic(auto)]
 
-ghost use Rattle.std.specs.Prelude.{◌≡◌, ℕ, List, [], ◌∷◌, ◌++◌, decimal, MatchResult, ◌≢◌};
+ghost use Rattle.std.specs.Prelude.{◌≡◌, ℕ, List, [], ◌∷◌, ◌++◌, MatchResult, ◌≢◌};
 ghost use Rattle.lines.specs.Lines.{Free, newline};
-ghost use Rattle.numerals.specs.Numbers.{Parses, Small};
+ghost use Rattle.numerals.specs.Numbers.{Parses};
 ghost use Rattle.fields.specs.Fields.{field_text, space, spaced};
 
 use lines::{Part, up_to};
-use numerals::{NoForm, number};
+use literals::Spelled;
+use numerals::NoForm;
 
 /// A key and its value, two parts of a text, and the number of the line that they stand in.
 #[derive(Clone, Copy)]
@@ -23,10 +24,7 @@ fn after<'a>(text: &'a [u8], front: &[u8]) -> Result<&'a [u8], NoForm>
         (λ rest. text.now ≡ front.now ++ rest.now)
         (λ _. (rest : List ℕ) → text.now ≢ front.now ++ rest) }
 {
-    match text.strip_prefix(front) {
-        Some(rest) => Ok(rest),
-        None => Err(NoForm),
-    }
+    text.strip_prefix(front).ok_or(NoForm)
 }
 
 // What stands before the first `end`, and what follows it.
@@ -35,11 +33,10 @@ fn cut(text: &[u8], end: u8) -> Result<(&[u8], &[u8]), NoForm>
         (λ p. (text.now ≡ p.0.now ++ (end ∷ p.1.now)) × Free end p.0.now)
         (λ _. (value rest : List ℕ) → text.now ≢ value ++ (end ∷ rest)) }
 {
-    let n = up_to(text, end);
-    if n == text.len() {
-        return Err(NoForm);
+    match text.split_at(up_to(text, end)) {
+        (value, [_, rest @ ..]) => Ok((value, rest)),
+        _ => Err(NoForm),
     }
-    Ok((&text[0..n], &text[n + 1..]))
 }
 
 /// The field of this key at the start of a part, up to the first `end`, and what follows that byte.
@@ -53,76 +50,76 @@ pub fn take_field<'a>(part: Part<'a>, key: &[u8], end: u8) -> Result<(Field<'a>,
     let rest = after(part.bytes, key)?;
     let rest = after(rest, b"=")?;
     let (value, rest) = cut(rest, end)?;
-    let key = &part.bytes[0..key.len()];
-    Ok((
-        Field {
-            key,
-            value,
-            line: part.line,
-        },
-        Part {
-            bytes: rest,
-            line: part.line,
-        },
-    ))
+    let field = Field {
+        key: &part.bytes[..key.len()],
+        value,
+        line: part.line,
+    };
+    let rest = Part {
+        bytes: rest,
+        ..part
+    };
+    Ok((field, rest))
 }
 
-/// The number of the field of this key, which a space ends, and what follows.
-pub fn number_field<'a>(part: Part<'a>, key: &[u8]) -> Result<(u32, Part<'a>), NoForm>
+/// The value of the field of this key, which a space ends, and what follows.
+pub fn next_field<'a, V: Spelled>(part: Part<'a>, key: &[u8]) -> Result<(V, Part<'a>), NoForm>
     ensures { MatchResult result
-        (λ p. (part.entry.bytes.now ≡ field_text key.now (decimal p.0) space p.1.bytes.now) × Small p.0 × (p.1.line ≡ part.entry.line))
-        (λ _. (n : ℕ) (rest : List ℕ) → part.entry.bytes.now ≡ field_text key.now (decimal n) space rest → Small n → ⊥) }
+        (λ p. (part.entry.bytes.now ≡ field_text key.now (V.spelling p.0) space p.1.bytes.now) × V.fits p.0 × (p.1.line ≡ part.entry.line))
+        (λ _. (v : V) (rest : List ℕ) → part.entry.bytes.now ≡ field_text key.now (V.spelling v) space rest → V.fits v → ⊥) }
 {
     let (field, rest) = take_field(part, key, b' ')?;
-    let n = number(field.value)?;
-    Ok((n, rest))
+    Ok((V::parse(field.value)?, rest))
 }
 
-/// The value of the field of this key, which ends the line.
+/// The text of the field of this key, which ends the line.
 pub fn last_value<'a>(part: Part<'a>, key: &[u8]) -> Result<&'a [u8], NoForm>
     ensures { MatchResult result
         (λ v. (part.entry.bytes.now ≡ field_text key.now v.now newline []) × Free newline v.now)
         (λ _. (value : List ℕ) → part.entry.bytes.now ≡ field_text key.now value newline [] → Free newline value → ⊥) }
 {
     let (field, rest) = take_field(part, key, b'\n')?;
-    if rest.bytes.len() != 0 {
+    if !rest.bytes.is_empty() {
         return Err(NoForm);
     }
     Ok(field.value)
 }
 
-// The number of the field of this key, which ends the line.
-fn last_number(part: Part, key: &[u8]) -> Result<u32, NoForm>
-    ensures { Parses (λ n. field_text key.now (decimal n) newline []) Small part.entry.bytes.now result }
+/// The value of the field of this key, which ends the line.
+pub fn last_field<V: Spelled>(part: Part, key: &[u8]) -> Result<V, NoForm>
+    ensures { Parses (λ v. field_text key.now (V.spelling v) newline []) V.fits part.entry.bytes.now result }
 {
-    let value = last_value(part, key)?;
-    let n = number(value)?;
-    Ok(n)
+    V::parse(last_value(part, key)?)
 }
 
-/// The numbers of the last two fields of a line.
-pub fn two_numbers(part: Part, first: &[u8], second: &[u8]) -> Result<(u32, u32), NoForm>
+// Two functions and no list of keys: each field has a type of its own.
+/// The values of the last two fields of a line.
+pub fn two_fields<A: Spelled, B: Spelled>(
+    part: Part,
+    first: &[u8],
+    second: &[u8],
+) -> Result<(A, B), NoForm>
     ensures { Parses
-        (λ p. spaced ((first.now, decimal p.0) ∷ ((second.now, decimal p.1) ∷ [])))
-        (λ p. Small p.0 × Small p.1) part.entry.bytes.now result }
+        (λ p. spaced ((first.now, A.spelling p.0) ∷ ((second.now, B.spelling p.1) ∷ [])))
+        (λ p. A.fits p.0 × B.fits p.1) part.entry.bytes.now result }
 {
-    let (a, rest) = number_field(part, first)?;
-    let b = last_number(rest, second)?;
+    let (a, last) = next_field(part, first)?;
+    let b = last_field(last, second)?;
     Ok((a, b))
 }
 
-/// The numbers of the last three fields of a line.
-pub fn three_numbers(
+/// The values of the last three fields of a line.
+pub fn three_fields<A: Spelled, B: Spelled, C: Spelled>(
     part: Part,
     first: &[u8],
     second: &[u8],
     third: &[u8],
-) -> Result<(u32, u32, u32), NoForm>
+) -> Result<(A, B, C), NoForm>
     ensures { Parses
-        (λ p. spaced ((first.now, decimal p.0) ∷ ((second.now, decimal p.1) ∷ ((third.now, decimal p.2) ∷ []))))
-        (λ p. Small p.0 × Small p.1 × Small p.2) part.entry.bytes.now result }
+        (λ p. spaced ((first.now, A.spelling p.0) ∷ ((second.now, B.spelling p.1) ∷ ((third.now, C.spelling p.2) ∷ []))))
+        (λ p. A.fits p.0 × B.fits p.1 × C.fits p.2) part.entry.bytes.now result }
 {
-    let (a, rest) = number_field(part, first)?;
-    let (b, c) = two_numbers(rest, second, third)?;
+    let (a, rest) = next_field(part, first)?;
+    let (b, c) = two_fields(rest, second, third)?;
     Ok((a, b, c))
 }

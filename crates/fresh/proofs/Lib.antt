@@ -1,4 +1,4 @@
 pub mod Rooms
-pub mod Sums
+pub mod Laying
 pub mod Empty
 pub mod Makes

@@ -1,21 +1,21 @@
 -- The making of a store, case by case.
-use Rattle.std.proofs.Common.{◌≡◌, ℕ, ◌+◌, ◌<◌, ◌≤◌, Bool, true, false, cond, ◌&&◌, leb, List, length, get_or, replicate, None, Ok, Err, sum, Result, refl, ap, ◌∙◌, inl, inr, arith}
+use Rattle.std.proofs.Common.{◌≡◌, ℕ, ◌+◌, ◌<◌, ◌≤◌, Bool, true, false, cond, ◌&&◌, leb, List, length, replicate, None, Ok, Err, sum, Result, refl, ap, ◌∙◌, inl, inr, arith}
 use Rattle.std.proofs.lemmas.Bool.{cases_Bool, cond-true, cond-false, and_parts, leb-true}
 use Rattle.memory.proofs.Pasting.{length-pasted}
 use Rattle.answers.specs.declared.Refusal.{Refusal}
 use Rattle.answers.specs.declared.Refusal.TheVariants.{OutOfBounds, Short}
 use Rattle.stacks.specs.Limits.{stacks_fit}
-use Rattle.layout.specs.Machine.{Machine, windows}
+use Rattle.layout.specs.Machine.{Machine, windows, start}
 use Rattle.layout.specs.Fresh.{starts_from, fresh_machine}
 use Rattle.store.specs.declared.state.Store.{Store}
 use Rattle.store.specs.Checks.{admitted, long_enough}
-use Rattle.store.specs.View.{table_of, view}
+use Rattle.store.specs.View.{rooms_of, table_of, view}
 use Rattle.promises.specs.Promise.{Depicts}
 use Rattle.fresh.specs.declared.windows.Windows.{Windows}
 use Rattle.fresh.specs.Windows.{lengths, windows_fit, empty_state}
 use Rattle.fresh.specs.Made.{cleared, store_made}
 use Rattle.fresh.proofs.Rooms.{length-lengths}
-use Rattle.fresh.proofs.Sums.{starts-end}
+use Rattle.store.proofs.Sums.{starts-end}
 use Rattle.fresh.proofs.Empty.{depicts-empty}
 
 -- The memory has all windows, and no stack is over its limit.
@@ -43,9 +43,9 @@ module _ (ws : List Windows) (len : length ws ≡ 5) (s : Store) (new : (xs : Li
   lent = enough ws (length words) control bindings
 
   -- The last window ends after all words.
-  store-end : get_or s.starts windows 0 ≡ sum (lengths ws)
+  store-end : start (table_of s) windows ≡ sum (lengths ws)
   store-end =
-      let t : s.starts ≡ starts_from 0 (lengths ws) = ap (λ (x : Machine). x.table.starts) (new words) in
+      let t : starts_from 0 (rooms_of s) ≡ starts_from 0 (lengths ws) = ap (λ (x : Machine). x.table.starts) (new words) in
       let n = length-lengths ws in rw t (starts-end (lengths ws) windows (omega arith))
 
   -- It takes a call exactly if it was lent enough.
@@ -78,13 +78,13 @@ module _ (ws : List Windows) (len : length ws ≡ 5) (s : Store) (new : (xs : Li
       ]
 
   -- Else the windows' words can be cleared.
-  pub clears : (u : Unit {0}) → Ok u ≡ answer → length words < 0 + get_or s.starts windows 0 → ⊥
+  pub clears : (u : Unit {0}) → Ok u ≡ answer → length words < 0 + start (table_of s) windows → ⊥
   clears u e l = omega (arith, store-end, answer-long u e, l)
 
   -- With those words cleared the store is made, and shows the empty state.
-  pub makes-store : (u : Unit {0}) → Ok u ≡ answer → (words' : List ℕ) → words' ≡ cleared (get_or s.starts windows 0) words → ((words', Ok (view s 0 words')) ≡ store_made ws control bindings words) × Depicts (view s 0 words') (empty_state ws)
+  pub makes-store : (u : Unit {0}) → Ok u ≡ answer → (words' : List ℕ) → words' ≡ cleared (start (table_of s) windows) words → ((words', Ok (view s 0 words')) ≡ store_made ws control bindings words) × Depicts (view s 0 words') (empty_state ws)
   makes-store u e words' clear =
-      let n = ap length clear ∙ length-pasted words 0 (replicate (get_or s.starts windows 0) 0) in (
+      let n = ap length clear ∙ length-pasted words 0 (replicate (start (table_of s) windows) 0) in (
         makes-fresh ws control bindings words words' (view s 0 words') fit (answer-lent u e) (rw store-end at clear) (new words'),
         depicts-empty ws len (view s 0 words') words' (new words') fit (omega (arith, n, answer-long u e)),
       )

@@ -1,15 +1,24 @@
 -- What the making of a store answers, and what it leaves in the memory.
-use Rattle.std.specs.Prelude.{ℕ, cond, ◌&&◌, List, length, replicate, Ok, Err, sum, Result, nat_le}
+use Rattle.std.specs.Prelude.{◌≡◌, ℕ, ◌<◌, cond, ◌&&◌, List, length, replicate, take, Ok, Err, sum, Result, nat_le, slice_index, slice_index_or}
 use Rattle.memory.specs.Pasted.{pasted}
 use Rattle.answers.specs.declared.Refusal.{Refusal}
 use Rattle.answers.specs.declared.Refusal.TheVariants.{OutOfBounds, Short}
 use Rattle.stacks.specs.Limits.{stacks_fit}
 use Rattle.layout.specs.Machine.{Machine}
 use Rattle.layout.specs.Fresh.{fresh_machine}
+use Rattle.store.specs.declared.windows.Window.{Window}
 use Rattle.store.specs.declared.state.Store.{Store}
 use Rattle.store.specs.View.{view}
 use Rattle.fresh.specs.declared.windows.Windows.{Windows}
 use Rattle.fresh.specs.Windows.{lengths, windows_fit}
+
+-- The first n windows have these words, one after another, and none is in use.
+pub record LaidOut (ws : List Window) (rooms : List ℕ) (n : ℕ) : Type 0 where
+  pub long : length ws ≡ 20
+  pub start : (j : ℕ) (d : Window) → j < n → (slice_index_or ws j d).start ≡ sum (take j rooms)
+  pub room : (j : ℕ) (d : Window) → j < n → (slice_index_or ws j d).room ≡ slice_index rooms j
+  pub low : (j : ℕ) (d : Window) → j < n → (slice_index_or ws j d).low ≡ 0
+  pub high : (j : ℕ) (d : Window) → j < n → (slice_index_or ws j d).high ≡ slice_index rooms j
 
 -- The machine that a store is with this memory, where there is a store.
 abbrev pub viewed : List ℕ → Result Store Refusal → Result Machine Refusal

@@ -3,71 +3,73 @@
 
 ghost use Rattle.std.specs.Prelude.{◌≡◌, ℕ, ◌≤◌, true, List, length, IfOk};
 ghost use Rattle.std.specs.List.{AllByRecursion};
-ghost use Rattle.layout.specs.Fresh.{starts_from, fresh_machine};
+ghost use Rattle.layout.specs.Fresh.{fresh_machine};
+ghost use Rattle.loan.specs.Lent.{GivenBack};
 ghost use Rattle.store.specs.View.{view};
 ghost use Rattle.promises.specs.Promise.{Depicts};
 ghost use Rattle.fresh.specs.Windows.{lengths, windows_fit, empty_state};
-ghost use Rattle.fresh.specs.Made.{viewed, store_made};
+ghost use Rattle.fresh.specs.Made.{LaidOut, viewed, store_made};
 
 use answers::Refusal;
 use kinds::Kind;
+use loan::Loan;
 use memory::{WordMemory, fill};
-use stacks::Binding;
-use store::{REGISTERS, Store, WINDOWS};
+use store::{REGISTERS, Store, WINDOWS, Window};
 
 mod windows;
 
 pub use windows::{WINDOW_LIMIT, Windows};
 
 /// No window of any kind is over the limit.
-fn windows_fit(windows: [Windows; 5]) -> bool
+fn windows_fit(windows: [Windows; Kind::COUNT]) -> bool
     ensures { result ≡ windows_fit windows }
 {
-    for w in windows {
-        if !w.fit() {
-            return false;
-        }
-    }
-    true
+    windows.iter().all(|w| w.fit())
 }
 
 /// The words of each window, kind by kind.
-fn lengths(windows: [Windows; 5]) -> [usize; 20]
+fn lengths(windows: [Windows; Kind::COUNT]) -> [usize; WINDOWS]
     ensures { result ≡ lengths windows }
 {
     let mut rooms = [0; WINDOWS];
     for (k, w) in windows.iter().enumerate() {
-        let first = 4 * k;
-        rooms[first] = w.dynamic as usize;
-        rooms[first + 1] = w.dynamic as usize;
-        rooms[first + 2] = w.fixed as usize;
-        rooms[first + 3] = w.read_only as usize;
+        rooms[4 * k..4 * k + 4].copy_from_slice(&w.rooms());
     }
     rooms
 }
 
-/// Where windows of this many words begin, and where the last one ends.
-fn starts(rooms: [usize; 20]) -> [usize; 21]
+/// Windows of this many words one after another, no word of them in use.
+fn lay_out(rooms: [usize; WINDOWS]) -> [Window; WINDOWS]
     requires { AllByRecursion (λ n. n ≤ 65536) rooms }
-    ensures { result ≡ starts_from 0 rooms }
+    ensures { LaidOut result rooms 20 }
 {
-    let mut starts = [0; 21];
-    for i in 0..WINDOWS {
-        starts[i + 1] = starts[i] + rooms[i];
+    let empty = Window {
+        start: 0,
+        room: 0,
+        low: 0,
+        high: 0,
+    };
+    let mut windows = [empty; WINDOWS];
+    let mut start = 0;
+    for (i, room) in rooms.iter().enumerate() {
+        windows[i] = Window {
+            start,
+            room: *room,
+            low: 0,
+            high: *room,
+        };
+        start += *room;
     }
-    starts
+    windows
 }
 
 /// A store with these windows, no word of them in use.
-fn empty_store(windows: [Windows; 5]) -> Store
+fn empty_store(windows: [Windows; Kind::COUNT]) -> Store
     requires { windows_fit windows ≡ true }
     ensures { (ws : List ℕ) → view result 0 ws ≡ fresh_machine (lengths windows) ws }
 {
-    let rooms = lengths(windows);
     Store {
-        starts: starts(rooms),
-        lows: [0; WINDOWS],
-        highs: rooms,
+        windows: lay_out(lengths(windows)),
         frozen: [0; Kind::COUNT],
         newspace: 0,
         registers: [words::NULL; REGISTERS],
@@ -77,21 +79,19 @@ fn empty_store(windows: [Windows; 5]) -> Store
 
 /// Makes a store with these windows, in order of type code, and clears their words.
 pub fn make_store<M: WordMemory>(
-    windows: [Windows; 5],
-    memory: &mut M,
-    control: &[u32],
-    bindings: &[Binding],
+    windows: [Windows; Kind::COUNT],
+    loan: &mut Loan<M>,
 ) -> Result<Store, Refusal>
-    ensures makes { (M.WordMemory.words memory.new, viewed (M.WordMemory.words memory.new) result)
-        ≡ store_made windows (length control.now) (length bindings.now) (M.WordMemory.words memory.old) }
-    ensures empty { IfOk result (λ s. Depicts (view s 0 (M.WordMemory.words memory.new)) (empty_state windows)) }
-    ensures lender { M.WordMemory.lender memory.new ≡ M.WordMemory.lender memory.old }
+    ensures makes { (M.WordMemory.words loan.new.memory, viewed (M.WordMemory.words loan.new.memory) result)
+        ≡ store_made windows (length loan.old.control.now) (length loan.old.bindings.now) (M.WordMemory.words loan.old.memory) }
+    ensures empty { IfOk result (λ s. Depicts (view s 0 (M.WordMemory.words loan.new.memory)) (empty_state windows)) }
+    ensures lent { GivenBack M.WordMemory.lender loan.old loan.new }
 {
     if !windows_fit(windows) {
         return Err(Refusal::OutOfBounds);
     }
     let store = empty_store(windows);
-    store.admit(true, memory, control, bindings)?;
-    fill(memory, 0, store.starts[WINDOWS], 0)?;
+    store.admit(true, loan)?;
+    fill(&mut loan.memory, 0, store.end(), 0)?;
     Ok(store)
 }

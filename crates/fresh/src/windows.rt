@@ -1,6 +1,6 @@
 // How many words a kind's windows are to have.
 ghost use Rattle.std.specs.Prelude.{◌≡◌};
-ghost use Rattle.fresh.specs.Windows.{narrow};
+ghost use Rattle.fresh.specs.Windows.{of_kind, narrow};
 
 /// Words that a window may have.
 pub const WINDOW_LIMIT: u32 = 65_536;
@@ -22,5 +22,17 @@ impl Windows {
         ensures { result ≡ narrow self }
     {
         self.dynamic <= WINDOW_LIMIT && self.fixed <= WINDOW_LIMIT && self.read_only <= WINDOW_LIMIT
+    }
+
+    /// The words of each, in order of space code.
+    pub(crate) fn rooms(self) -> [usize; 4]
+        ensures { result ≡ of_kind self }
+    {
+        [
+            self.dynamic as usize,
+            self.dynamic as usize,
+            self.fixed as usize,
+            self.read_only as usize,
+        ]
     }
 }

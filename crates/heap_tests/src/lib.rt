@@ -7,7 +7,9 @@ mod refusals;
 mod tests {
     use answers::{Refusal, TextFault, Told};
     use heap::{Heap, Windows};
+    use loan::Loan;
     use memory::{Halves, WordMemory, Words};
+    use spaces::Space;
     use std::process::Abort;
     use std::test::Fail;
     use words::Literal;
@@ -18,6 +20,15 @@ mod tests {
         read_only: 0,
     };
 
+    // A memory lent with stacks that have no room.
+    fn lent<M>(memory: M) -> Loan<'static, M> {
+        Loan {
+            memory,
+            control: &mut [],
+            bindings: &mut [],
+        }
+    }
+
     // The number of a refusal, 0 where the call was granted.
     fn number<T: Drop>(r: Result<T, Refusal>) -> u32 {
         match r {
@@ -26,10 +37,10 @@ mod tests {
         }
     }
 
-    fn told_space(r: Result<Told, Refusal>) -> u32 {
+    fn told_space(r: Result<Told, Refusal>) -> Option<Space> {
         match r {
-            Ok(Told::Object { space, .. }) => space,
-            _ => 99,
+            Ok(Told::Object { space, .. }) => Some(space),
+            _ => None,
         }
     }
 
@@ -43,7 +54,7 @@ mod tests {
     #[test]
     fn three_lists_fit_six_words_and_a_fourth_is_refused(rt: HostRuntime) -> Result<(), Fail> {
         let mut words = [7u32; 12];
-        let mut memory = Words(&mut words);
+        let mut loan = lent(Words(&mut words));
         let windows = [
             NONE,
             NONE,
@@ -55,19 +66,19 @@ mod tests {
                 read_only: 0,
             },
         ];
-        let mut heap = Heap::new(windows, &mut memory, &mut [], &mut [])?;
-        heap.put(&mut memory, &mut [], &mut [], 0, Literal::Fixnum(7))?;
-        assert!(rt; number(heap.list(&mut memory, &mut [], &mut [], 1, 0, 0)) == 0);
-        assert!(rt; number(heap.list(&mut memory, &mut [], &mut [], 2, 0, 0)) == 0);
-        assert!(rt; number(heap.list(&mut memory, &mut [], &mut [], 3, 0, 0)) == 0);
-        assert!(rt; number(heap.list(&mut memory, &mut [], &mut [], 4, 0, 0)) == 8);
+        let mut heap = Heap::new(windows, &mut loan)?;
+        heap.put(&mut loan, 0, Literal::Fixnum(7))?;
+        assert!(rt; number(heap.list(&mut loan, 1, 0, 0)) == 0);
+        assert!(rt; number(heap.list(&mut loan, 2, 0, 0)) == 0);
+        assert!(rt; number(heap.list(&mut loan, 3, 0, 0)) == 0);
+        assert!(rt; number(heap.list(&mut loan, 4, 0, 0)) == 8);
         Ok(())
     }
 
     #[test]
     fn a_refused_line_puts_the_dynamic_space_back(rt: HostRuntime) -> Result<(), Fail> {
         let mut halves = [0u16; 24];
-        let mut memory = Halves(&mut halves);
+        let mut loan = lent(Halves(&mut halves));
         let windows = [
             NONE,
             NONE,
@@ -79,12 +90,12 @@ mod tests {
                 read_only: 0,
             },
         ];
-        let mut heap = Heap::new(windows, &mut memory, &mut [], &mut [])?;
+        let mut heap = Heap::new(windows, &mut loan)?;
         let text = b"op=put to=0 value=f7\nop=list to=1 car=0 cdr=0\n";
-        let (line, refusal) = fault(heap.open_text(&mut memory, &mut [], &mut [], 2, text));
+        let (line, refusal) = fault(heap.open_text(&mut loan, 2, text));
         assert!(rt; line == 2 && refusal == 8);
-        assert!(rt; number(heap.list(&mut memory, &mut [], &mut [], 1, 0, 0)) == 0);
-        assert!(rt; told_space(heap.tell(&mut memory, &mut [], &mut [], 1)) == 0);
+        assert!(rt; number(heap.list(&mut loan, 1, 0, 0)) == 0);
+        assert!(rt; told_space(heap.tell(&mut loan, 1)) == Some(Space::Dynamic));
         Ok(())
     }
 
@@ -104,25 +115,23 @@ mod tests {
                 read_only: 0,
             },
         ];
-        let mut memory = Words(&mut words);
-        let mut heap = Heap::new(windows, &mut memory, &mut [], &mut [])?;
+        let mut loan = lent(Words(&mut words));
+        let mut heap = Heap::new(windows, &mut loan)?;
         let mut few = [0u32; 11];
-        let mut short = Words(&mut few);
-        assert!(rt; number(heap.read(&mut short, &mut [], &mut [], 16, 0, 0)) == 1);
-        assert!(rt; number(heap.read(&mut short, &mut [], &mut [], 0, 0, 0)) == 15);
-        assert!(rt; number(heap.read(&mut memory, &mut [], &mut [], 0, 0, 9)) == 2);
-        assert!(rt;
-            number(heap.put(&mut memory, &mut [], &mut [], 0, Literal::Character(256))) == 3
-        );
-        assert!(rt; number(heap.vector(&mut memory, &mut [], &mut [], 0, 65_535, 0)) == 3);
-        assert!(rt; number(heap.symbol(&mut memory, &mut [], &mut [], 0, 0)) == 2);
+        let mut short = lent(Words(&mut few));
+        assert!(rt; number(heap.read(&mut short, 16, 0, 0)) == 1);
+        assert!(rt; number(heap.read(&mut short, 0, 0, 0)) == 15);
+        assert!(rt; number(heap.read(&mut loan, 0, 0, 9)) == 2);
+        assert!(rt; number(heap.put(&mut loan, 0, Literal::Character(256))) == 3);
+        assert!(rt; number(heap.vector(&mut loan, 0, 65_535, 0)) == 3);
+        assert!(rt; number(heap.symbol(&mut loan, 0, 0)) == 2);
         Ok(())
     }
 
     #[test]
     fn a_foreign_header_is_found_and_remembered(rt: HostRuntime) -> Result<(), Fail> {
         let mut words = [0u32; 12];
-        let mut memory = Words(&mut words);
+        let mut loan = lent(Words(&mut words));
         let windows = [
             NONE,
             NONE,
@@ -134,19 +143,19 @@ mod tests {
             NONE,
             NONE,
         ];
-        let mut heap = Heap::new(windows, &mut memory, &mut [], &mut [])?;
-        assert!(rt; number(heap.vector(&mut memory, &mut [], &mut [], 0, 2, 1)) == 0);
-        memory.write(3, 0x1000_0009)?;
-        assert!(rt; number(heap.read(&mut memory, &mut [], &mut [], 1, 0, 0)) == 17);
-        memory.write(3, 0x1000_0003)?;
-        assert!(rt; number(heap.put(&mut memory, &mut [], &mut [], 0, Literal::Null)) == 17);
+        let mut heap = Heap::new(windows, &mut loan)?;
+        assert!(rt; number(heap.vector(&mut loan, 0, 2, 1)) == 0);
+        loan.memory.write(3, 0x1000_0009)?;
+        assert!(rt; number(heap.read(&mut loan, 1, 0, 0)) == 17);
+        loan.memory.write(3, 0x1000_0003)?;
+        assert!(rt; number(heap.put(&mut loan, 0, Literal::Null)) == 17);
         Ok(())
     }
 
     #[test]
     fn a_foreign_cell_is_found(rt: HostRuntime) -> Result<(), Fail> {
         let mut words = [0u32; 12];
-        let mut memory = Words(&mut words);
+        let mut loan = lent(Words(&mut words));
         let windows = [
             NONE,
             NONE,
@@ -158,11 +167,11 @@ mod tests {
                 read_only: 0,
             },
         ];
-        let mut heap = Heap::new(windows, &mut memory, &mut [], &mut [])?;
-        assert!(rt; number(heap.list(&mut memory, &mut [], &mut [], 0, 1, 1)) == 0);
-        memory.write(4, 0xB000_0000)?;
-        assert!(rt; number(heap.read(&mut memory, &mut [], &mut [], 1, 0, 0)) == 17);
-        assert!(rt; number(heap.same(&mut memory, &mut [], &mut [], 0, 0)) == 17);
+        let mut heap = Heap::new(windows, &mut loan)?;
+        assert!(rt; number(heap.list(&mut loan, 0, 1, 1)) == 0);
+        loan.memory.write(4, 0xB000_0000)?;
+        assert!(rt; number(heap.read(&mut loan, 1, 0, 0)) == 17);
+        assert!(rt; number(heap.same(&mut loan, 0, 0)) == 17);
         Ok(())
     }
 
@@ -175,15 +184,12 @@ mod tests {
     // What reading cell 0 of a list answers, and then a put, once the host has written `word` over the cell.
     fn list_cell_becomes(rt: &impl Abort, word: u32) -> Result<(u32, u32), Fail> {
         let mut words = [0u32; 14];
-        let mut memory = Words(&mut words);
-        let mut heap = Heap::new([NONE, NONE, NONE, NONE, SIX], &mut memory, &mut [], &mut [])?;
-        assert!(rt; number(heap.list(&mut memory, &mut [], &mut [], 0, 1, 1)) == 0);
-        memory.write(4, word)?;
-        let read = number(heap.read(&mut memory, &mut [], &mut [], 1, 0, 0));
-        Ok((
-            read,
-            number(heap.put(&mut memory, &mut [], &mut [], 0, Literal::Null)),
-        ))
+        let mut loan = lent(Words(&mut words));
+        let mut heap = Heap::new([NONE, NONE, NONE, NONE, SIX], &mut loan)?;
+        assert!(rt; number(heap.list(&mut loan, 0, 1, 1)) == 0);
+        loan.memory.write(4, word)?;
+        let read = number(heap.read(&mut loan, 1, 0, 0));
+        Ok((read, number(heap.put(&mut loan, 0, Literal::Null))))
     }
 
     #[test]
@@ -225,44 +231,39 @@ mod tests {
     #[test]
     fn a_dynamic_pointer_in_a_read_only_list_is_foreign(rt: HostRuntime) -> Result<(), Fail> {
         let mut words = [0u32; 14];
-        let mut memory = Words(&mut words);
-        let mut heap = Heap::new([NONE, NONE, NONE, NONE, SIX], &mut memory, &mut [], &mut [])?;
-        assert!(rt; number(heap.list(&mut memory, &mut [], &mut [], 0, 1, 1)) == 0);
-        heap.set_space(&mut memory, &mut [], &mut [], 3)?;
-        assert!(rt; number(heap.list(&mut memory, &mut [], &mut [], 2, 0, 1)) == 7);
-        assert!(rt; number(heap.list(&mut memory, &mut [], &mut [], 2, 1, 1)) == 0);
-        memory.write(12, 0xB000_0010)?;
-        assert!(rt; number(heap.read(&mut memory, &mut [], &mut [], 3, 2, 0)) == 17);
-        assert!(rt; number(heap.freeze(&mut memory, &mut [], &mut [])) == 17);
+        let mut loan = lent(Words(&mut words));
+        let mut heap = Heap::new([NONE, NONE, NONE, NONE, SIX], &mut loan)?;
+        assert!(rt; number(heap.list(&mut loan, 0, 1, 1)) == 0);
+        heap.set_space(&mut loan, 3)?;
+        assert!(rt; number(heap.list(&mut loan, 2, 0, 1)) == 7);
+        assert!(rt; number(heap.list(&mut loan, 2, 1, 1)) == 0);
+        loan.memory.write(12, 0xB000_0010)?;
+        assert!(rt; number(heap.read(&mut loan, 3, 2, 0)) == 17);
+        assert!(rt; number(heap.freeze(&mut loan)) == 17);
         Ok(())
     }
 
     #[test]
     fn a_frozen_list_takes_no_writes_and_a_later_one_does(rt: HostRuntime) -> Result<(), Fail> {
         let mut words = [0u32; 16];
-        let mut memory = Words(&mut words);
+        let mut loan = lent(Words(&mut words));
         let windows = Windows {
             dynamic: 6,
             fixed: 0,
             read_only: 4,
         };
-        let mut heap = Heap::new(
-            [NONE, NONE, NONE, NONE, windows],
-            &mut memory,
-            &mut [],
-            &mut [],
-        )?;
-        heap.set_space(&mut memory, &mut [], &mut [], 3)?;
-        assert!(rt; number(heap.list(&mut memory, &mut [], &mut [], 0, 1, 1)) == 0);
-        heap.freeze(&mut memory, &mut [], &mut [])?;
-        assert!(rt; number(heap.list(&mut memory, &mut [], &mut [], 2, 1, 1)) == 0);
-        assert!(rt; number(heap.write(&mut memory, &mut [], &mut [], 0, 0, 1)) == 6);
-        assert!(rt; number(heap.write(&mut memory, &mut [], &mut [], 2, 0, 1)) == 0);
+        let mut heap = Heap::new([NONE, NONE, NONE, NONE, windows], &mut loan)?;
+        heap.set_space(&mut loan, 3)?;
+        assert!(rt; number(heap.list(&mut loan, 0, 1, 1)) == 0);
+        heap.freeze(&mut loan)?;
+        assert!(rt; number(heap.list(&mut loan, 2, 1, 1)) == 0);
+        assert!(rt; number(heap.write(&mut loan, 0, 0, 1)) == 6);
+        assert!(rt; number(heap.write(&mut loan, 2, 0, 1)) == 0);
         Ok(())
     }
 
     // A heap with a string of two characters in register 0, and a symbol of that name in register 1.
-    fn named<M: WordMemory>(rt: &impl Abort, memory: &mut M) -> Result<Heap, Fail> {
+    fn named<M: WordMemory>(rt: &impl Abort, loan: &mut Loan<M>) -> Result<Heap, Fail> {
         let strings = Windows {
             dynamic: 8,
             fixed: 0,
@@ -273,37 +274,32 @@ mod tests {
             fixed: 0,
             read_only: 0,
         };
-        let mut heap = Heap::new(
-            [NONE, strings, NONE, symbols, NONE],
-            memory,
-            &mut [],
-            &mut [],
-        )?;
-        assert!(rt; number(heap.string(memory, &mut [], &mut [], 0, 2)) == 0);
-        assert!(rt; number(heap.symbol(memory, &mut [], &mut [], 1, 0)) == 0);
+        let mut heap = Heap::new([NONE, strings, NONE, symbols, NONE], loan)?;
+        assert!(rt; number(heap.string(loan, 0, 2)) == 0);
+        assert!(rt; number(heap.symbol(loan, 1, 0)) == 0);
         Ok(heap)
     }
 
     #[test]
     fn a_print_name_that_is_no_string_is_foreign(rt: HostRuntime) -> Result<(), Fail> {
         let mut words = [0u32; 28];
-        let mut memory = Words(&mut words);
-        let mut heap = named(&rt, &mut memory)?;
-        assert!(rt; number(heap.read(&mut memory, &mut [], &mut [], 2, 1, 0)) == 4);
-        assert!(rt; number(heap.read(&mut memory, &mut [], &mut [], 2, 1, 3)) == 0);
-        memory.write(19, 0x1000_0007)?;
-        assert!(rt; number(heap.read(&mut memory, &mut [], &mut [], 2, 1, 3)) == 17);
+        let mut loan = lent(Words(&mut words));
+        let mut heap = named(&rt, &mut loan)?;
+        assert!(rt; number(heap.read(&mut loan, 2, 1, 0)) == 4);
+        assert!(rt; number(heap.read(&mut loan, 2, 1, 3)) == 0);
+        loan.memory.write(19, 0x1000_0007)?;
+        assert!(rt; number(heap.read(&mut loan, 2, 1, 3)) == 17);
         Ok(())
     }
 
     #[test]
     fn a_string_of_another_access_type_is_foreign(rt: HostRuntime) -> Result<(), Fail> {
         let mut words = [0u32; 28];
-        let mut memory = Words(&mut words);
-        let mut heap = named(&rt, &mut memory)?;
-        memory.write(6, 0x2000_0002)?;
-        assert!(rt; number(heap.tell(&mut memory, &mut [], &mut [], 0)) == 17);
-        assert!(rt; number(heap.tell(&mut memory, &mut [], &mut [], 1)) == 17);
+        let mut loan = lent(Words(&mut words));
+        let mut heap = named(&rt, &mut loan)?;
+        loan.memory.write(6, 0x2000_0002)?;
+        assert!(rt; number(heap.tell(&mut loan, 0)) == 17);
+        assert!(rt; number(heap.tell(&mut loan, 1)) == 17);
         Ok(())
     }
 }

@@ -4,6 +4,7 @@
 mod tests {
     use answers::{Place, Refusal, TextFault};
     use heap::{Heap, Windows};
+    use loan::Loan;
     use memory::{WordMemory, Words};
     use std::process::Abort;
     use std::test::Fail;
@@ -24,6 +25,15 @@ mod tests {
 
     // A text with one byte too many.
     const LONG: [u8; 16_385] = [b'x'; 16_385];
+
+    // A memory lent with stacks that have no room.
+    fn lent<M>(memory: M) -> Loan<'static, M> {
+        Loan {
+            memory,
+            control: &mut [],
+            bindings: &mut [],
+        }
+    }
 
     // What a call answers: the number of its refusal, 0 where it is granted, and the word of memory that the refusal names.
     #[derive(Clone, Copy, PartialEq, Eq, Debug)]
@@ -113,8 +123,8 @@ mod tests {
     impl Bench {
         fn new(windows: [Windows; 5]) -> Result<Bench, Fail> {
             let mut words = [7; 2_050];
-            let mut memory = Words(&mut words);
-            let heap = Heap::new(windows, &mut memory, &mut [], &mut [])?;
+            let mut loan = lent(Words(&mut words));
+            let heap = Heap::new(windows, &mut loan)?;
             Ok(Bench { heap, words })
         }
 
@@ -143,102 +153,86 @@ mod tests {
 
         // The caller changes a word of the memory between two calls.
         fn poke(&mut self, at: usize, word: u32) -> Result<(), Fail> {
-            let mut memory = Words(&mut self.words);
-            memory.write(at, word)?;
+            Words(&mut self.words).write(at, word)?;
             Ok(())
         }
 
         fn put(&mut self, to: u32, value: Literal) -> Answer {
-            let mut memory = Words(&mut self.words);
-            Answer::of(self.heap.put(&mut memory, &mut [], &mut [], to, value))
+            let mut loan = lent(Words(&mut self.words));
+            Answer::of(self.heap.put(&mut loan, to, value))
         }
 
         fn list(&mut self, to: u32, car: u32, cdr: u32) -> Answer {
-            let mut memory = Words(&mut self.words);
-            Answer::of(self.heap.list(&mut memory, &mut [], &mut [], to, car, cdr))
+            let mut loan = lent(Words(&mut self.words));
+            Answer::of(self.heap.list(&mut loan, to, car, cdr))
         }
 
         fn symbol(&mut self, to: u32, name: u32) -> Answer {
-            let mut memory = Words(&mut self.words);
-            Answer::of(self.heap.symbol(&mut memory, &mut [], &mut [], to, name))
+            let mut loan = lent(Words(&mut self.words));
+            Answer::of(self.heap.symbol(&mut loan, to, name))
         }
 
         fn vector(&mut self, to: u32, count: u32, fill: u32) -> Answer {
-            let mut memory = Words(&mut self.words);
-            Answer::of(
-                self.heap
-                    .vector(&mut memory, &mut [], &mut [], to, count, fill),
-            )
+            let mut loan = lent(Words(&mut self.words));
+            Answer::of(self.heap.vector(&mut loan, to, count, fill))
         }
 
         fn string(&mut self, to: u32, count: u32) -> Answer {
-            let mut memory = Words(&mut self.words);
-            Answer::of(self.heap.string(&mut memory, &mut [], &mut [], to, count))
+            let mut loan = lent(Words(&mut self.words));
+            Answer::of(self.heap.string(&mut loan, to, count))
         }
 
         fn words(&mut self, to: u32, count: u32, access: u32) -> Answer {
-            let mut memory = Words(&mut self.words);
-            Answer::of(
-                self.heap
-                    .words(&mut memory, &mut [], &mut [], to, count, access),
-            )
+            let mut loan = lent(Words(&mut self.words));
+            Answer::of(self.heap.words(&mut loan, to, count, access))
         }
 
         fn read(&mut self, to: u32, from: u32, at: u32) -> Answer {
-            let mut memory = Words(&mut self.words);
-            Answer::of(self.heap.read(&mut memory, &mut [], &mut [], to, from, at))
+            let mut loan = lent(Words(&mut self.words));
+            Answer::of(self.heap.read(&mut loan, to, from, at))
         }
 
         fn write(&mut self, into: u32, at: u32, value: u32) -> Answer {
-            let mut memory = Words(&mut self.words);
-            Answer::of(
-                self.heap
-                    .write(&mut memory, &mut [], &mut [], into, at, value),
-            )
+            let mut loan = lent(Words(&mut self.words));
+            Answer::of(self.heap.write(&mut loan, into, at, value))
         }
 
         fn tell(&mut self, of: u32) -> Answer {
-            let mut memory = Words(&mut self.words);
-            Answer::of(self.heap.tell(&mut memory, &mut [], &mut [], of))
+            let mut loan = lent(Words(&mut self.words));
+            Answer::of(self.heap.tell(&mut loan, of))
         }
 
         fn same(&mut self, left: u32, right: u32) -> Answer {
-            let mut memory = Words(&mut self.words);
-            Answer::of(self.heap.same(&mut memory, &mut [], &mut [], left, right))
+            let mut loan = lent(Words(&mut self.words));
+            Answer::of(self.heap.same(&mut loan, left, right))
         }
 
         fn set_space(&mut self, space: u32) -> Answer {
-            let mut memory = Words(&mut self.words);
-            Answer::of(self.heap.set_space(&mut memory, &mut [], &mut [], space))
+            let mut loan = lent(Words(&mut self.words));
+            Answer::of(self.heap.set_space(&mut loan, space))
         }
 
         fn freeze(&mut self) -> Answer {
-            let mut memory = Words(&mut self.words);
-            Answer::of(self.heap.freeze(&mut memory, &mut [], &mut []))
+            let mut loan = lent(Words(&mut self.words));
+            Answer::of(self.heap.freeze(&mut loan))
         }
 
         fn open_text(&mut self, space: u32, text: &[u8]) -> (u64, Answer) {
-            let mut memory = Words(&mut self.words);
-            Answer::of_text(
-                self.heap
-                    .open_text(&mut memory, &mut [], &mut [], space, text),
-            )
+            let mut loan = lent(Words(&mut self.words));
+            Answer::of_text(self.heap.open_text(&mut loan, space, text))
         }
 
         // The two calls below are lent a memory that is too short.
         fn read_short(&mut self, to: u32, from: u32, at: u32) -> Answer {
             let mut few = [0; 11];
-            let mut memory = Words(&mut few);
-            Answer::of(self.heap.read(&mut memory, &mut [], &mut [], to, from, at))
+            let mut loan = lent(Words(&mut few));
+            Answer::of(self.heap.read(&mut loan, to, from, at))
         }
 
         fn open_text_short(&mut self, space: u32, text: &[u8]) -> (u64, Answer) {
             let mut few = [0; 11];
-            let mut memory = Words(&mut few);
-            Answer::of_text(
-                self.heap
-                    .open_text(&mut memory, &mut [], &mut [], space, text),
-            )
+            let mut loan = lent(Words(&mut few));
+            Answer::of_text(self.heap.open_text(&mut loan, space, text))
         }
     }
 
@@ -657,7 +651,7 @@ mod tests {
     // What making a heap with this window answers in a memory of eleven words.
     fn made_in_eleven(fixed: u32) -> Answer {
         let mut few = [0; 11];
-        let mut memory = Words(&mut few);
+        let mut loan = lent(Words(&mut few));
         let windows = [
             EMPTY,
             EMPTY,
@@ -669,7 +663,7 @@ mod tests {
                 read_only: 0,
             },
         ];
-        Answer::of(Heap::new(windows, &mut memory, &mut [], &mut []))
+        Answer::of(Heap::new(windows, &mut loan))
     }
 
     #[test]

@@ -1,9 +1,10 @@
 -- What a kind of object contributes.
-use Rattle.std.specs.Prelude.{ℕ, ◌/◌, ◌%◌, Bool, true, false, cond, not, ◌||◌, Some, None, Option, ◌==◌, nat_lt}
+use Rattle.std.specs.Prelude.{◌≡◌, ℕ, ◌/◌, ◌%◌, Bool, true, false, cond, not, ◌&&◌, ◌||◌, Some, None, Option, ◌==◌, nat_le, nat_lt}
 use Rattle.words.specs.Words.{type_of, aligned, words_of, count_of, fixnum_word, character_word, null_word, trap_word}
 use Rattle.kinds.specs.declared.kind.Kind.{Kind}
 use Rattle.kinds.specs.declared.kind.Kind.TheVariants.{UVector, String, BVector, Symbol, List}
 use Rattle.kinds.specs.declared.object_kind.Shape.{Shape}
+use Rattle.kinds.specs.declared.object_kind.Descriptor.{Descriptor}
 use Rattle.kinds.specs.declared.kind.Class.{Class}
 use Rattle.kinds.specs.declared.kind.Class.TheVariants.{Fixnum, Character, Null, Unset, Pointer}
 
@@ -138,6 +139,13 @@ entry_word String e = character_word (e % 256)
 entry_word BVector e = fixnum_word (count_of e)
 entry_word Symbol e = fixnum_word (count_of e)
 entry_word List e = fixnum_word (count_of e)
+
+-- The descriptor of a kind: its constants; and its sizes, unset cells, access types and entries are those that its numbers tell.
+abbrev pub Describes : Kind → Descriptor → Type 0
+Describes κ d =
+    (d.shape ≡ shape_of κ) × ((w : ℕ) → size_by κ w ≡ cond (heads κ == 0) (least κ) (words_of w)) × ((k : ℕ) → lacks κ k ≡ nat_lt k d.unset)
+    × ((a : ℕ) → accessible κ a ≡ (nat_le d.entries.least_access a && nat_le a d.entries.greatest_access))
+    × ((e : ℕ) → entry_word κ e ≡ cond d.entries.characters (character_word (e % 256)) (fixnum_word (count_of e)))
 
 -- The class of a word; none of a word that means nothing.
 abbrev pub pointer_class : Bool → Option Kind → Option Class

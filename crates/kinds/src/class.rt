@@ -1,29 +1,32 @@
 // The class of a word.
-ghost use Rattle.std.specs.Prelude.{◌≡◌};
+ghost use Rattle.std.specs.Prelude.{◌≡◌, ok_or};
 ghost use Rattle.kinds.specs.Kinds.{word_class, entry_number};
 
-use super::kind::{Class, Kind};
+use super::kind::{Class, Kind, UnknownClass};
 
-/// The class of a word, or none where it means nothing.
-pub fn class_of(w: u32) -> Option<Class>
-    ensures { result ≡ word_class w }
-{
-    let code = words::type_code(w);
-    if code == 1 {
-        return Some(Class::Fixnum);
-    }
-    if w == words::TRAP {
-        return Some(Class::Unset);
-    }
-    if w == words::NULL {
-        return Some(Class::Null);
-    }
-    if w / 256 == 0x1_0000 {
-        return Some(Class::Character);
-    }
-    match Kind::of_code(code) {
-        Some(kind) if words::is_aligned(w) => Some(Class::Pointer(kind)),
-        _ => None,
+impl TryFrom<u32> for Class {
+    type Error = UnknownClass;
+
+    ghost try_from_gives = { λ w r. r ≡ ok_or (word_class w) (record {}) };
+
+    fn try_from(w: u32) -> Result<Class, UnknownClass> {
+        let code = words::type_code(w);
+        if code == 1 {
+            return Ok(Class::Fixnum);
+        }
+        if w == words::TRAP {
+            return Ok(Class::Unset);
+        }
+        if w == words::NULL {
+            return Ok(Class::Null);
+        }
+        if w / 256 == 0x1_0000 {
+            return Ok(Class::Character);
+        }
+        match Kind::try_from(code) {
+            Ok(kind) if words::is_aligned(w) => Ok(Class::Pointer(kind)),
+            _ => Err(UnknownClass),
+        }
     }
 }
 

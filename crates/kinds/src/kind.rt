@@ -10,6 +10,10 @@ pub enum Kind {
     List,
 }
 
+/// A type code that no kind has.
+#[derive(Clone, Copy, PartialEq, Eq, Debug)]
+pub struct UnknownKind;
+
 /// What a word is to a cell that may take it.
 #[derive(Clone, Copy, PartialEq, Eq, Debug)]
 pub enum Class {
@@ -19,3 +23,7 @@ pub enum Class {
     Unset,
     Pointer(Kind),
 }
+
+/// A word that means nothing.
+#[derive(Clone, Copy, PartialEq, Eq, Debug)]
+pub struct UnknownClass;

@@ -6,6 +6,8 @@ mod kind;
 mod list;
 mod object_kind;
 
-pub use class::{class_of, entry_number};
-pub use kind::{Class, Kind};
-pub use object_kind::{BVectors, Lists, ObjectKind, Shape, Strings, Symbols, UVectors};
+pub use class::entry_number;
+pub use kind::{Class, Kind, UnknownClass, UnknownKind};
+pub use object_kind::{
+    BVectors, Descriptor, Entries, Lists, ObjectKind, Shape, Strings, Symbols, UVectors,
+};

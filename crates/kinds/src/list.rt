@@ -1,8 +1,8 @@
 // The one list of all kinds, and what runs over it.
-ghost use Rattle.std.specs.Prelude.{◌≡◌};
+ghost use Rattle.std.specs.Prelude.{◌≡◌, ok_or};
 ghost use Rattle.kinds.specs.Kinds.{kind_of, index, shape_of, size_by, takes, lacks, accessible, entry_word};
 
-use super::kind::{Class, Kind};
+use super::kind::{Class, Kind, UnknownKind};
 use super::object_kind::{BVectors, Lists, ObjectKind, Shape, Strings, Symbols, UVectors};
 
 macro_rules! by_kind {
@@ -17,35 +17,41 @@ macro_rules! by_kind {
     };
 }
 
+impl TryFrom<u32> for Kind {
+    type Error = UnknownKind;
+
+    ghost try_from_gives = { λ code r. r ≡ ok_or (kind_of code) (record {}) };
+
+    fn try_from(code: u32) -> Result<Kind, UnknownKind> {
+        match code {
+            3 => Ok(Kind::UVector),
+            4 => Ok(Kind::String),
+            7 => Ok(Kind::BVector),
+            10 => Ok(Kind::Symbol),
+            11 => Ok(Kind::List),
+            _ => Err(UnknownKind),
+        }
+    }
+}
+
 impl Kind {
     /// How many kinds there are.
     pub const COUNT: usize = 5;
 
-    /// The kind whose pointers have this type code.
-    pub fn of_code(code: u32) -> Option<Kind>
-        ensures { result ≡ kind_of code }
-    {
-        match code {
-            3 => Some(Kind::UVector),
-            4 => Some(Kind::String),
-            7 => Some(Kind::BVector),
-            10 => Some(Kind::Symbol),
-            11 => Some(Kind::List),
-            _ => None,
-        }
-    }
+    /// All of them, in order of type code.
+    pub const ALL: [Kind; Kind::COUNT] = [
+        Kind::UVector,
+        Kind::String,
+        Kind::BVector,
+        Kind::Symbol,
+        Kind::List,
+    ];
 
     /// Its place among the kinds, in order of type code.
     pub fn index(self) -> usize
         ensures { result ≡ index self }
     {
-        match self {
-            Kind::UVector => 0,
-            Kind::String => 1,
-            Kind::BVector => 2,
-            Kind::Symbol => 3,
-            Kind::List => 4,
-        }
+        self as usize
     }
 
     /// The constants of the kind.

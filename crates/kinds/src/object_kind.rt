@@ -1,8 +1,11 @@
 // What a kind of object contributes, and the five kinds.
-ghost use Rattle.std.specs.Prelude.{◌≡◌, ℕ};
+ghost use Rattle.std.specs.Prelude.{◌≡◌};
+ghost use Rattle.std.proofs.Common.{rules};
 ghost use Rattle.kinds.specs.declared.kind.Kind.{Kind};
 ghost use Rattle.kinds.specs.declared.kind.Kind.TheVariants.{UVector, String, BVector, Symbol, List};
-ghost use Rattle.kinds.specs.Kinds.{shape_of, size_by, takes, lacks, accessible, entry_word};
+ghost use Rattle.kinds.specs.declared.object_kind.Descriptor.{Descriptor};
+ghost use Rattle.kinds.specs.declared.object_kind.TheConstants.{UVECTOR, STRING, BVECTOR, SYMBOL, LIST};
+ghost use Rattle.kinds.specs.Kinds.{Describes, shape_of, size_by, takes, lacks, accessible, entry_word};
 
 use super::kind::{Class, Kind};
 
@@ -15,188 +18,214 @@ pub struct Shape {
     pub boxed: bool,
     /// Words before the cells.
     pub heads: usize,
-    /// Words of its smallest object.
+    /// Words of its smallest object, and of each of its objects where no word stands before the cells.
     pub least: usize,
 }
 
-/// A kind of object: its type code, whether its cells are boxed, its size, and what its cells take.
-pub trait ObjectKind {
-    /// The type code of its pointers.
-    const CODE: u32;
+/// The packed entries of a kind's objects.
+#[derive(Clone, Copy)]
+pub struct Entries {
+    /// The least access type of an object.
+    pub least_access: u32,
+    /// The greatest access type of an object.
+    pub greatest_access: u32,
+    /// They are characters; else they are fixnums.
+    pub characters: bool,
+}
 
-    /// Its cells are words that hold values.
-    const BOXED: bool;
+/// A kind in numbers: all that it contributes but for what its cells take.
+#[derive(Clone, Copy)]
+pub struct Descriptor {
+    pub shape: Shape,
+    /// How many cells, from the first on, have no value when an object is made.
+    pub unset: usize,
+    pub entries: Entries,
+}
+
+/// A kind of object: its descriptor, and what its cells take.
+pub trait ObjectKind {
+    /// The kind in numbers.
+    const DESCRIPTOR: Descriptor;
 
     // The kind that this is.
     ghost kind: { Kind };
 
-    /// The constants of the kind, these two among them.
-    fn shape() -> Shape
-        ensures { result ≡ shape_of kind };
-
-    /// The words of an object that begins with this word.
-    fn size_of(first: u32) -> usize
-        ensures { result ≡ size_by kind first };
+    ghost DESCRIPTOR: { Descriptor };
 
     /// A value of this class may be written into this cell.
     fn accepts(cell: usize, class: Class) -> bool
         ensures { result ≡ takes kind cell class };
 
+    // The descriptor is that of the kind.
+    ghost described: { Describes kind DESCRIPTOR };
+
+    /// The constants of the kind.
+    final fn shape() -> Shape
+        ensures { result ≡ shape_of kind }
+    {
+        Self::DESCRIPTOR.shape
+    }
+
+    /// The words of an object that begins with this word.
+    final fn size_of(first: u32) -> usize
+        ensures { result ≡ size_by kind first }
+    {
+        let shape = Self::shape();
+        if shape.heads == 0 {
+            shape.least
+        } else {
+            words::header_words(first) as usize
+        }
+    }
+
     /// This cell has no value when its object is made.
-    fn starts_unset(cell: usize) -> bool
-        ensures { result ≡ lacks kind cell };
+    final fn starts_unset(cell: usize) -> bool
+        ensures { result ≡ lacks kind cell }
+    {
+        cell < Self::DESCRIPTOR.unset
+    }
 
     /// Its objects may have this access type.
-    fn has_access(access: u32) -> bool
-        ensures { result ≡ accessible kind access };
+    final fn has_access(access: u32) -> bool
+        ensures { result ≡ accessible kind access }
+    {
+        let entries = Self::DESCRIPTOR.entries;
+        (entries.least_access..=entries.greatest_access).contains(&access)
+    }
 
     /// The word of a packed entry, as a value.
-    fn entry_word(entry: u32) -> u32
-        ensures { result ≡ entry_word kind entry };
+    final fn entry_word(entry: u32) -> u32
+        ensures { result ≡ entry_word kind entry }
+    {
+        if Self::DESCRIPTOR.entries.characters {
+            words::character_word(entry)
+        } else {
+            words::fixnum_word(entry)
+        }
+    }
 }
+
+// The entries of a kind that has none, since its cells are boxed.
+const NO_ENTRIES: Entries = Entries {
+    least_access: 0,
+    greatest_access: 0,
+    characters: false,
+};
 
 /// Packed entries of 1, 2, 4, 8 or 16 bits, each an unsigned fixnum.
 pub struct UVectors;
 
-impl ObjectKind for UVectors {
-    const CODE: u32 = 3;
+const UVECTOR: Descriptor = Descriptor {
+    shape: Shape {
+        code: 3,
+        boxed: false,
+        heads: 2,
+        least: 2,
+    },
+    unset: 0,
+    entries: Entries {
+        least_access: 0,
+        greatest_access: 4,
+        characters: false,
+    },
+};
 
-    const BOXED: bool = false;
+impl ObjectKind for UVectors {
+    const DESCRIPTOR: Descriptor = UVECTOR;
 
     ghost kind = { UVector };
 
-    fn shape() -> Shape {
-        Shape {
-            code: Self::CODE,
-            boxed: Self::BOXED,
-            heads: 2,
-            least: 2,
-        }
-    }
+    ghost DESCRIPTOR = { UVECTOR };
 
-    fn size_of(first: u32) -> usize {
-        words::header_words(first) as usize
-    }
+    ghost described = { Prim.search rules };
 
     fn accepts(_cell: usize, class: Class) -> bool {
         matches!(class, Class::Fixnum)
-    }
-
-    fn starts_unset(_cell: usize) -> bool {
-        false
-    }
-
-    fn has_access(access: u32) -> bool {
-        access < 5
-    }
-
-    fn entry_word(entry: u32) -> u32 {
-        words::fixnum_word(entry)
     }
 }
 
 /// Packed characters of 8 bits.
 pub struct Strings;
 
-impl ObjectKind for Strings {
-    const CODE: u32 = 4;
+const STRING: Descriptor = Descriptor {
+    shape: Shape {
+        code: 4,
+        boxed: false,
+        heads: 2,
+        least: 2,
+    },
+    unset: 0,
+    entries: Entries {
+        least_access: 3,
+        greatest_access: 3,
+        characters: true,
+    },
+};
 
-    const BOXED: bool = false;
+impl ObjectKind for Strings {
+    const DESCRIPTOR: Descriptor = STRING;
 
     ghost kind = { String };
 
-    fn shape() -> Shape {
-        Shape {
-            code: Self::CODE,
-            boxed: Self::BOXED,
-            heads: 2,
-            least: 2,
-        }
-    }
+    ghost DESCRIPTOR = { STRING };
 
-    fn size_of(first: u32) -> usize {
-        words::header_words(first) as usize
-    }
+    ghost described = { Prim.search rules };
 
     fn accepts(_cell: usize, class: Class) -> bool {
         matches!(class, Class::Character)
-    }
-
-    fn starts_unset(_cell: usize) -> bool {
-        false
-    }
-
-    fn has_access(access: u32) -> bool {
-        access == 3
-    }
-
-    fn entry_word(entry: u32) -> u32 {
-        words::character_word(entry)
     }
 }
 
 /// A header and boxed entries.
 pub struct BVectors;
 
-impl ObjectKind for BVectors {
-    const CODE: u32 = 7;
+const BVECTOR: Descriptor = Descriptor {
+    shape: Shape {
+        code: 7,
+        boxed: true,
+        heads: 1,
+        least: 1,
+    },
+    unset: 0,
+    entries: NO_ENTRIES,
+};
 
-    const BOXED: bool = true;
+impl ObjectKind for BVectors {
+    const DESCRIPTOR: Descriptor = BVECTOR;
 
     ghost kind = { BVector };
 
-    fn shape() -> Shape {
-        Shape {
-            code: Self::CODE,
-            boxed: Self::BOXED,
-            heads: 1,
-            least: 1,
-        }
-    }
+    ghost DESCRIPTOR = { BVECTOR };
 
-    fn size_of(first: u32) -> usize {
-        words::header_words(first) as usize
-    }
+    ghost described = { Prim.search rules };
 
     fn accepts(_cell: usize, class: Class) -> bool {
         !matches!(class, Class::Unset)
-    }
-
-    fn starts_unset(_cell: usize) -> bool {
-        false
-    }
-
-    fn has_access(access: u32) -> bool {
-        access == 0
-    }
-
-    fn entry_word(entry: u32) -> u32 {
-        words::fixnum_word(entry)
     }
 }
 
 /// Six cells: value, definition, property list, print name, package, hash.
 pub struct Symbols;
 
-impl ObjectKind for Symbols {
-    const CODE: u32 = 10;
+const SYMBOL: Descriptor = Descriptor {
+    shape: Shape {
+        code: 10,
+        boxed: true,
+        heads: 0,
+        least: 6,
+    },
+    unset: 2,
+    entries: NO_ENTRIES,
+};
 
-    const BOXED: bool = true;
+impl ObjectKind for Symbols {
+    const DESCRIPTOR: Descriptor = SYMBOL;
 
     ghost kind = { Symbol };
 
-    fn shape() -> Shape {
-        Shape {
-            code: Self::CODE,
-            boxed: Self::BOXED,
-            heads: 0,
-            least: 6,
-        }
-    }
+    ghost DESCRIPTOR = { SYMBOL };
 
-    fn size_of(_first: u32) -> usize {
-        6
-    }
+    ghost described = { Prim.search rules };
 
     fn accepts(cell: usize, class: Class) -> bool {
         match cell {
@@ -205,56 +234,32 @@ impl ObjectKind for Symbols {
             _ => !matches!(class, Class::Unset),
         }
     }
-
-    fn starts_unset(cell: usize) -> bool {
-        cell < 2
-    }
-
-    fn has_access(access: u32) -> bool {
-        access == 0
-    }
-
-    fn entry_word(entry: u32) -> u32 {
-        words::fixnum_word(entry)
-    }
 }
 
 /// Two cells: car and cdr.
 pub struct Lists;
 
-impl ObjectKind for Lists {
-    const CODE: u32 = 11;
+const LIST: Descriptor = Descriptor {
+    shape: Shape {
+        code: 11,
+        boxed: true,
+        heads: 0,
+        least: 2,
+    },
+    unset: 0,
+    entries: NO_ENTRIES,
+};
 
-    const BOXED: bool = true;
+impl ObjectKind for Lists {
+    const DESCRIPTOR: Descriptor = LIST;
 
     ghost kind = { List };
 
-    fn shape() -> Shape {
-        Shape {
-            code: Self::CODE,
-            boxed: Self::BOXED,
-            heads: 0,
-            least: 2,
-        }
-    }
+    ghost DESCRIPTOR = { LIST };
 
-    fn size_of(_first: u32) -> usize {
-        2
-    }
+    ghost described = { Prim.search rules };
 
     fn accepts(_cell: usize, class: Class) -> bool {
         !matches!(class, Class::Unset)
-    }
-
-    fn starts_unset(_cell: usize) -> bool {
-        false
-    }
-
-    fn has_access(access: u32) -> bool {
-        access == 0
-    }
-
-    fn entry_word(entry: u32) -> u32 {
-        words::fixnum_word(entry)
     }
 }

@@ -16,7 +16,7 @@ use Rattle.laws.proofs.Admission.{admission-sticks}
 use Rattle.laws.proofs.Access.{put-answers, read-answers}
 use Rattle.laws.proofs.Telling.{tell-answers, same-answers}
 use Rattle.laws.proofs.Writes.{write-answers}
-use Rattle.store.specs.Spaces.{space_at}
+use Rattle.spaces.specs.Spaces.{space_at}
 use Rattle.laws.proofs.Freezing.{freeze-answers, space-answers}
 use Rattle.laws.proofs.Staying.{put-stays, read_stays, write-stays, tell-stays, same-stays, freeze-stays, space-stays}
 use Rattle.making.specs.Makings.{list_made, symbol_made, vector_made, string_made, words_made}

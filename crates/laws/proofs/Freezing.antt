@@ -13,8 +13,8 @@ use Rattle.layout.specs.Places.{Places, new_window, space_now, Map}
 use Rattle.layout.specs.Shows.{Holds, Rules, Shown}
 use Rattle.access.specs.Access.{read_only_lows, with_frozen, freeze_done, with_space as in_space, space_done}
 use Rattle.std.proofs.lemmas.Bool.Decides.{nat_tests}
-use Rattle.store.specs.declared.space.Space.TheVariants.{Dynamic, Static, ReadOnly}
-use Rattle.store.specs.Spaces.{space_at}
+use Rattle.spaces.specs.declared.Space.TheVariants.{Dynamic, Static, ReadOnly}
+use Rattle.spaces.specs.Spaces.{space_at}
 use Rattle.promises.specs.Promise.{Answers, short}
 use Rattle.laws.proofs.Admission.{did-done, admission-did}
 

@@ -17,7 +17,7 @@ use Rattle.graph.specs.Graph.{Kind}
 use Rattle.layout.specs.Machine.{Table, Machine, windows, window, start, room, low, high, register_at, with_register}
 use Rattle.layout.specs.Ordered.{Ordered}
 use Rattle.store.specs.Checks.{in_use, dynamic_word}
-use Rattle.store.specs.Spaces.{space_at}
+use Rattle.spaces.specs.Spaces.{space_at}
 use Rattle.store.specs.Flow.{after}
 use Rattle.objects.specs.declared.opened.Opened.{Opened}
 use Rattle.objects.specs.Open.{next, or_else, fetched, headed, boxed_cells, packed_cells, measured, located, extent, opened_with, opened_as, opened}

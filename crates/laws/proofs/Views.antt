@@ -5,9 +5,9 @@ use Rattle.layout.specs.Machine.{dirty}
 use Rattle.layout.proofs.Fresh.{get_or-all}
 use Rattle.store.specs.declared.state.Store.{Store}
 use Rattle.store.specs.View.{table_of}
-use Rattle.store.specs.declared.space.Space.{Space}
-use Rattle.store.specs.declared.space.Space.TheVariants.{Dynamic, Static, ReadOnly}
-use Rattle.store.specs.Spaces.{code_of, space_at}
+use Rattle.spaces.specs.declared.Space.{Space}
+use Rattle.spaces.specs.declared.Space.TheVariants.{Dynamic, Static, ReadOnly}
+use Rattle.spaces.specs.Spaces.{code_of, space_at}
 
 -- no word is dirty
 pub view-clean : (s : Store) (l x : ℕ) → dirty (table_of s) l x ≡ false

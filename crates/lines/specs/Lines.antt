@@ -1,7 +1,8 @@
 -- The lines of a text, and what a reader has still to read.
 
-use Rattle.std.specs.Prelude.{ℕ, ◌<◌, cond, List, [], ◌∷◌, length, drop, ◌==◌, ◌≢◌, slice_index}
+use Rattle.std.specs.Prelude.{◌≡◌, ℕ, ◌+◌, ◌<◌, cond, Option, MatchOption, List, [], ◌∷◌, length, ◌==◌, ◌≢◌, slice_index}
 use Rattle.lines.specs.declared.reader.Reader.{Reader}
+use Rattle.lines.specs.declared.Part.{Part}
 
 -- The byte that ends a line.
 abbrev pub newline : ℕ
@@ -23,4 +24,15 @@ lines_of (b ∷ s) = cond (b == newline) ((b ∷ []) ∷ lines_of s) (onto b (li
 
 -- The bytes that a reader has not answered yet.
 abbrev pub unread : Reader → List ℕ
-unread r = drop r.at r.text.now
+unread r = r.rest.now
+
+-- A reader answers its next line and the number of it, or `None` after the last.
+abbrev pub ReadsLine : Reader → Option Part → Reader → Type 0
+ReadsLine r answer after =
+    MatchOption answer ((lines_of (unread r) ≡ []) × (after ≡ r))
+    (λ p. (lines_of (unread r) ≡ p.bytes.now ∷ lines_of (unread after)) × (p.line ≡ r.line + 1) × (after.line ≡ p.line))
+
+-- Lines, each with its number, where the first has n + 1.
+abbrev pub numbered : ℕ → List (List ℕ) → List (List ℕ × ℕ)
+numbered n [] = []
+numbered n (l ∷ ls) = (l, n + 1) ∷ numbered (n + 1) ls

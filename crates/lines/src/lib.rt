@@ -4,7 +4,8 @@
 mod reader;
 
 ghost use Rattle.std.specs.Prelude.{◌≡◌, ℕ, ◌+◌, ◌<◌, ◌≤◌, [], ◌∷◌, length, MatchOption, ◌≢◌, slice_index};
-ghost use Rattle.lines.specs.Lines.{lines_of, unread};
+ghost use Rattle.std.specs.Iterator.{at_most};
+ghost use Rattle.lines.specs.Lines.{ReadsLine, lines_of, unread};
 
 pub use reader::Reader;
 
@@ -21,12 +22,7 @@ pub fn up_to(text: &[u8], byte: u8) -> usize
     ensures before { (k : ℕ) → k < result → slice_index text.now k ≢ byte }
     ensures found { result < length text.now → slice_index text.now result ≡ byte }
 {
-    for (i, b) in text.iter().enumerate() {
-        if *b == byte {
-            return i;
-        }
-    }
-    text.len()
+    text.iter().position(|b| *b == byte).unwrap_or(text.len())
 }
 
 impl<'a> Reader<'a> {
@@ -35,28 +31,26 @@ impl<'a> Reader<'a> {
         ensures { (unread result ≡ text.now) × (result.line ≡ 0) }
     {
         Reader {
-            text,
-            at: 0,
+            rest: text,
             line: 0,
         }
     }
+}
+
+impl<'a> Iterator for Reader<'a> {
+    type Item = Part<'a>;
+
+    ghost next_gives = { ReadsLine };
+
+    ghost remaining = { λ r. at_most (length (lines_of (unread r))) };
 
     /// The next line with the byte 10 that ends it; only a last line may lack that byte.
-    pub fn next_line(&mut self) -> Option<Part<'a>>
-        ensures { MatchOption result
-            ((lines_of (unread self.old) ≡ []) × (self.new ≡ self.old))
-            (λ p. (lines_of (unread self.old) ≡ p.bytes.now ∷ lines_of (unread self.new))
-            × (p.line ≡ self.old.line + 1) × (self.new.line ≡ p.line)) }
-    {
-        let rest = &self.text[self.at..];
-        if rest.len() == 0 {
-            return None;
-        }
-        let size = (up_to(rest, b'\n') + 1).min(rest.len());
-        self.at += size;
+    fn next(&mut self) -> Option<Part<'a>> {
+        let bytes = self.rest.split_inclusive(|b| *b == b'\n').next()?;
+        self.rest = &self.rest[bytes.len()..];
         self.line += 1;
         Some(Part {
-            bytes: &rest[0..size],
+            bytes,
             line: self.line,
         })
     }

@@ -4,14 +4,16 @@
 #[cfg(test)]
 mod tests {
     use answers::{Refusal, TextFault, Told};
+    use kinds::Kind;
     use listing::{fault_line, listing_of};
+    use spaces::Space;
     use std::test::Fail;
 
     #[test]
     fn a_register_that_holds_null_has_no_line(rt: HostRuntime) -> Result<(), Fail> {
         let list = Told::Object {
-            code: 11,
-            space: 0,
+            kind: Kind::List,
+            space: Space::Dynamic,
             cells: 2,
         };
         let text = listing_of(rt.alloc(), &[Told::Fixnum(7), Told::Null, list])?;

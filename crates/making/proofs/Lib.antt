@@ -1,3 +1,3 @@
 pub mod Emplaced
 pub mod Made
-pub mod Cursors
+pub mod Room

@@ -1,2 +1,3 @@
 pub mod Make
 pub mod Makings
+pub mod Object

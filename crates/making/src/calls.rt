@@ -1,15 +1,17 @@
 // The makings, each with its refusals in order.
 ghost use Rattle.std.specs.Prelude.{◌≡◌, ℕ, ◌≤◌, length};
-ghost use Rattle.store.specs.Spaces.{code_of};
+ghost use Rattle.spaces.specs.Spaces.{code_of};
 ghost use Rattle.store.specs.View.{view};
+ghost use Rattle.loan.specs.Lent.{GivenBack};
 ghost use Rattle.making.specs.Makings.{string_word, list_made, symbol_made, vector_made, packed_made, string_made, words_made};
 
 use super::make;
+use super::object::NewObject;
 use answers::Refusal;
-use kinds::{Class, Kind, class_of};
+use kinds::{Class, Kind};
+use loan::Loan;
 use memory::WordMemory;
 use objects::MAX_COUNT;
-use stacks::Binding;
 use store::{Space, Store, is_dynamic};
 use words::{NULL, TRAP};
 
@@ -22,55 +24,56 @@ const LAST_ACCESS: u32 = 4;
 const STRING_ACCESS: u32 = 3;
 
 /// The word points to a string.
+#[tactic(auto, unfolding(crate::specs::Makings::string_word))]
 fn is_string(w: u32) -> bool
     ensures { result ≡ string_word w }
 {
-    matches!(class_of(w), Some(Class::Pointer(Kind::String)))
+    Class::try_from(w) == Ok(Class::Pointer(Kind::String))
 }
 
 /// Makes a list of what two registers hold.
+#[tactic(auto, unfolding(crate::specs::Makings::list_made))]
 pub fn make_list<M: WordMemory>(
     store: &mut Store,
-    memory: &mut M,
-    control: &[u32],
-    bindings: &[Binding],
+    loan: &mut Loan<M>,
     space: Space,
     to: u32,
     car: u32,
     cdr: u32,
 ) -> Result<u64, Refusal>
-    ensures makes { (view store.new (code_of space) (M.WordMemory.words memory.new), result)
-        ≡ list_made (length control.now) (length bindings.now) to car cdr (view store.old (code_of space) (M.WordMemory.words memory.old)) }
-    ensures lender { M.WordMemory.lender memory.new ≡ M.WordMemory.lender memory.old }
+    ensures makes { (view store.new (code_of space) (M.WordMemory.words loan.new.memory), result)
+        ≡ list_made (length loan.old.control.now) (length loan.old.bindings.now) to car cdr (view store.old (code_of space) (M.WordMemory.words loan.old.memory)) }
+    ensures lent { GivenBack M.WordMemory.lender loan.old loan.new }
 {
-    store.admit(
-        to <= LAST && car <= LAST && cdr <= LAST,
-        memory,
-        control,
-        bindings,
-    )?;
+    store.admit(to <= LAST && car <= LAST && cdr <= LAST, loan)?;
     let head = [store.registers[car as usize], store.registers[cdr as usize]];
     if space == Space::ReadOnly && (is_dynamic(head[0]) || is_dynamic(head[1])) {
         return Err(Refusal::DynamicInReadOnly);
     }
-    make(store, memory, Kind::List, space, &head, 0, 0, to as usize)
+    let object = NewObject {
+        kind: Kind::List,
+        space,
+        head: &head,
+        rest: 0,
+        fill: 0,
+    };
+    make(store, &mut loan.memory, &object, to as usize)
 }
 
 /// Makes a symbol whose print name is the string in a register.
+#[tactic(auto, unfolding(crate::specs::Makings::symbol_made))]
 pub fn make_symbol<M: WordMemory>(
     store: &mut Store,
-    memory: &mut M,
-    control: &[u32],
-    bindings: &[Binding],
+    loan: &mut Loan<M>,
     space: Space,
     to: u32,
     name: u32,
 ) -> Result<u64, Refusal>
-    ensures makes { (view store.new (code_of space) (M.WordMemory.words memory.new), result)
-        ≡ symbol_made (length control.now) (length bindings.now) to name (view store.old (code_of space) (M.WordMemory.words memory.old)) }
-    ensures lender { M.WordMemory.lender memory.new ≡ M.WordMemory.lender memory.old }
+    ensures makes { (view store.new (code_of space) (M.WordMemory.words loan.new.memory), result)
+        ≡ symbol_made (length loan.old.control.now) (length loan.old.bindings.now) to name (view store.old (code_of space) (M.WordMemory.words loan.old.memory)) }
+    ensures lent { GivenBack M.WordMemory.lender loan.old loan.new }
 {
-    store.admit(to <= LAST && name <= LAST, memory, control, bindings)?;
+    store.admit(to <= LAST && name <= LAST, loan)?;
     let word = store.registers[name as usize];
     if !is_string(word) {
         return Err(Refusal::WrongKind);
@@ -79,25 +82,31 @@ pub fn make_symbol<M: WordMemory>(
         return Err(Refusal::DynamicInReadOnly);
     }
     let head = [TRAP, TRAP, NULL, word, NULL, NULL];
-    make(store, memory, Kind::Symbol, space, &head, 0, 0, to as usize)
+    let object = NewObject {
+        kind: Kind::Symbol,
+        space,
+        head: &head,
+        rest: 0,
+        fill: 0,
+    };
+    make(store, &mut loan.memory, &object, to as usize)
 }
 
 /// Makes a vector of so many entries, each what a register holds.
+#[tactic(auto, unfolding(crate::specs::Makings::vector_made))]
 pub fn make_vector<M: WordMemory>(
     store: &mut Store,
-    memory: &mut M,
-    control: &[u32],
-    bindings: &[Binding],
+    loan: &mut Loan<M>,
     space: Space,
     to: u32,
     count: u32,
     fill: u32,
 ) -> Result<u64, Refusal>
-    ensures makes { (view store.new (code_of space) (M.WordMemory.words memory.new), result)
-        ≡ vector_made (length control.now) (length bindings.now) to count fill (view store.old (code_of space) (M.WordMemory.words memory.old)) }
-    ensures lender { M.WordMemory.lender memory.new ≡ M.WordMemory.lender memory.old }
+    ensures makes { (view store.new (code_of space) (M.WordMemory.words loan.new.memory), result)
+        ≡ vector_made (length loan.old.control.now) (length loan.old.bindings.now) to count fill (view store.old (code_of space) (M.WordMemory.words loan.old.memory)) }
+    ensures lent { GivenBack M.WordMemory.lender loan.old loan.new }
 {
-    store.admit(to <= LAST && fill <= LAST, memory, control, bindings)?;
+    store.admit(to <= LAST && fill <= LAST, loan)?;
     if count > MAX_COUNT {
         return Err(Refusal::OutOfBounds);
     }
@@ -106,19 +115,18 @@ pub fn make_vector<M: WordMemory>(
         return Err(Refusal::DynamicInReadOnly);
     }
     let head = [words::header_word(count + 1)];
-    make(
-        store,
-        memory,
-        Kind::BVector,
+    let object = NewObject {
+        kind: Kind::BVector,
         space,
-        &head,
-        count as usize,
-        word,
-        to as usize,
-    )
+        head: &head,
+        rest: count as usize,
+        fill: word,
+    };
+    make(store, &mut loan.memory, &object, to as usize)
 }
 
 /// An unboxed object with so many entries, all 0.
+#[tactic(auto, unfolding(crate::specs::Makings::packed_made))]
 fn make_packed<M: WordMemory>(
     store: &mut Store,
     memory: &mut M,
@@ -141,56 +149,63 @@ fn make_packed<M: WordMemory>(
         words::header_word(packed + 2),
         words::entries_word(access, count),
     ];
-    make(
-        store,
-        memory,
+    let object = NewObject {
         kind,
         space,
-        &head,
-        packed as usize,
-        0,
-        to as usize,
-    )
+        head: &head,
+        rest: packed as usize,
+        fill: 0,
+    };
+    make(store, memory, &object, to as usize)
 }
 
 /// Makes a string of so many characters, all with code 0.
+#[tactic(auto, unfolding(crate::specs::Makings::string_made))]
 pub fn make_string<M: WordMemory>(
     store: &mut Store,
-    memory: &mut M,
-    control: &[u32],
-    bindings: &[Binding],
+    loan: &mut Loan<M>,
     space: Space,
     to: u32,
     count: u32,
 ) -> Result<u64, Refusal>
-    ensures makes { (view store.new (code_of space) (M.WordMemory.words memory.new), result)
-        ≡ string_made (length control.now) (length bindings.now) to count (view store.old (code_of space) (M.WordMemory.words memory.old)) }
-    ensures lender { M.WordMemory.lender memory.new ≡ M.WordMemory.lender memory.old }
+    ensures makes { (view store.new (code_of space) (M.WordMemory.words loan.new.memory), result)
+        ≡ string_made (length loan.old.control.now) (length loan.old.bindings.now) to count (view store.old (code_of space) (M.WordMemory.words loan.old.memory)) }
+    ensures lent { GivenBack M.WordMemory.lender loan.old loan.new }
 {
-    store.admit(to <= LAST, memory, control, bindings)?;
-    make_packed(store, memory, Kind::String, space, STRING_ACCESS, count, to)
+    store.admit(to <= LAST, loan)?;
+    make_packed(
+        store,
+        &mut loan.memory,
+        Kind::String,
+        space,
+        STRING_ACCESS,
+        count,
+        to,
+    )
 }
 
 /// Makes an unboxed vector of so many entries of an access type, all 0.
+#[tactic(auto, unfolding(crate::specs::Makings::words_made))]
 pub fn make_words<M: WordMemory>(
     store: &mut Store,
-    memory: &mut M,
-    control: &[u32],
-    bindings: &[Binding],
+    loan: &mut Loan<M>,
     space: Space,
     to: u32,
     count: u32,
     access: u32,
 ) -> Result<u64, Refusal>
-    ensures makes { (view store.new (code_of space) (M.WordMemory.words memory.new), result)
-        ≡ words_made (length control.now) (length bindings.now) to count access (view store.old (code_of space) (M.WordMemory.words memory.old)) }
-    ensures lender { M.WordMemory.lender memory.new ≡ M.WordMemory.lender memory.old }
+    ensures makes { (view store.new (code_of space) (M.WordMemory.words loan.new.memory), result)
+        ≡ words_made (length loan.old.control.now) (length loan.old.bindings.now) to count access (view store.old (code_of space) (M.WordMemory.words loan.old.memory)) }
+    ensures lent { GivenBack M.WordMemory.lender loan.old loan.new }
 {
-    store.admit(
-        to <= LAST && access <= LAST_ACCESS,
-        memory,
-        control,
-        bindings,
-    )?;
-    make_packed(store, memory, Kind::UVector, space, access, count, to)
+    store.admit(to <= LAST && access <= LAST_ACCESS, loan)?;
+    make_packed(
+        store,
+        &mut loan.memory,
+        Kind::UVector,
+        space,
+        access,
+        count,
+        to,
+    )
 }

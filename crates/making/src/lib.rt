@@ -1,17 +1,20 @@
 // New objects: their words written, and their window's cursor moved past them.
 #![tactic(auto)]
 
-ghost use Rattle.std.specs.Prelude.{◌≡◌, ℕ, ◌+◌, ◌^◌, ◌<◌, ◌≤◌, Bool, ◌++◌, length, replicate, Ok, nat_le};
-ghost use Rattle.store.specs.Spaces.{code_of};
+ghost use Rattle.std.specs.Prelude.{◌≡◌, ℕ, ◌+◌, ◌<◌, ◌≤◌, Bool, cond, Ok, ◌==◌, nat_le};
+ghost use Rattle.spaces.specs.Spaces.{code_of};
 ghost use Rattle.store.specs.View.{table_of, view};
 ghost use Rattle.making.specs.Make.{emplaced, room_for, claimed, made};
+ghost use Rattle.making.specs.Object.{words_of};
 
 use answers::Refusal;
 use kinds::Kind;
 use memory::{WordMemory, fill, paste};
-use store::{Space, Store, window};
+use object::NewObject;
+use store::{Space, Store, Window, window};
 
 mod calls;
+mod object;
 
 pub use calls::{make_list, make_string, make_symbol, make_vector, make_words};
 
@@ -23,36 +26,60 @@ fn fits(len: usize, at: usize, first: usize, second: usize) -> bool
 }
 
 /// Writes the words of an object, or nothing where they do not fit.
-fn emplace<M: WordMemory>(
-    memory: &mut M,
-    at: usize,
-    head: &[u32],
-    n: usize,
-    w: u32,
-) -> Result<(), Refusal>
-    ensures emplaces { (M.WordMemory.words memory.new, result) ≡ emplaced at (head.now ++ replicate n w) (M.WordMemory.words memory.old) }
+fn emplace<M: WordMemory>(memory: &mut M, at: usize, object: &NewObject) -> Result<(), Refusal>
+    ensures emplaces { (M.WordMemory.words memory.new, result) ≡ emplaced at (words_of object.now) (M.WordMemory.words memory.old) }
     ensures lender { M.WordMemory.lender memory.new ≡ M.WordMemory.lender memory.old }
 {
-    if !fits(memory.len(), at, head.len(), n) {
+    if !fits(memory.len(), at, object.head.len(), object.rest) {
         return Err(Refusal::Short);
     }
-    paste(memory, at, head)?;
-    fill(memory, at + head.len(), n, w)?;
+    paste(memory, at, object.head)?;
+    fill(memory, at + object.head.len(), object.rest, object.fill)?;
     Ok(())
 }
 
 /// Where in its window a new object of this many words goes.
+#[tactic(auto, unfolding(crate::specs::Make::room_for))]
 fn room_for(store: &Store, kind: Kind, space: Space, size: usize) -> Result<u32, Refusal>
     ensures { result ≡ room_for (table_of store.now) kind (code_of space) size }
 {
-    let j = window(kind, store.space_now(space));
-    if store.highs[j] - store.lows[j] < size {
+    let w = &store.windows[window(kind, store.space_now(space))];
+    if w.high - w.low < size {
         return Err(Refusal::NoRoom);
     }
     Ok(match space {
-        Space::Dynamic => (store.highs[j] - size) as u32,
-        _ => store.lows[j] as u32,
+        Space::Dynamic => (w.high - size) as u32,
+        _ => w.low as u32,
     })
+}
+
+/// A window with a new object's words in use.
+fn extended(w: Window, space: Space, offset: usize, size: usize) -> Window
+    requires { (w.low ≤ offset) × (offset + size ≤ w.high) }
+    ensures low { result.low ≡ cond (code_of space == 0) w.low (offset + size) }
+    ensures high { result.high ≡ cond (code_of space == 0) offset w.high }
+    ensures rest { (result.start ≡ w.start) × (result.room ≡ w.room) }
+{
+    let Window {
+        start,
+        room,
+        low,
+        high,
+    } = w;
+    match space {
+        Space::Dynamic => Window {
+            start,
+            room,
+            low,
+            high: offset,
+        },
+        _ => Window {
+            start,
+            room,
+            low: offset + size,
+            high,
+        },
+    }
 }
 
 /// The words of a new object are in use.
@@ -63,33 +90,28 @@ fn claim(store: &mut Store, kind: Kind, space: Space, offset: u32, size: usize)
     ensures foreign { store.new.foreign ≡ store.old.foreign }
 {
     let j = window(kind, store.space_now(space));
-    match space {
-        Space::Dynamic => store.highs[j] = offset as usize,
-        _ => store.lows[j] = offset as usize + size,
-    }
+    store.windows[j] = extended(store.windows[j], space, offset as usize, size);
 }
 
-/// Makes an object of these words, and points a register to it.
+/// Makes an object, and points a register to it.
 fn make<M: WordMemory>(
     store: &mut Store,
     memory: &mut M,
-    kind: Kind,
-    space: Space,
-    head: &[u32],
-    n: usize,
-    w: u32,
+    object: &NewObject,
     to: usize,
 ) -> Result<u64, Refusal>
-    requires { (to < 16) × (length head.now + n < 2 ^ 32) }
-    ensures makes { (view store.new (code_of space) (M.WordMemory.words memory.new), result)
-        ≡ made kind (code_of space) (head.now ++ replicate n w) to (view store.old (code_of space) (M.WordMemory.words memory.old)) }
+    requires { to < 16 }
+    ensures makes { (view store.new (code_of object.now.space) (M.WordMemory.words memory.new), result)
+        ≡ made object.now.kind (code_of object.now.space) (words_of object.now) to (view store.old (code_of object.now.space) (M.WordMemory.words memory.old)) }
     ensures lender { M.WordMemory.lender memory.new ≡ M.WordMemory.lender memory.old }
 {
-    let size = head.len() + n;
+    let kind = object.kind;
+    let space = object.space;
+    let size = object.size();
     let offset = room_for(store, kind, space, size)?;
     let code = store.space_now(space);
-    let at = store.starts[window(kind, code)] + offset as usize;
-    emplace(memory, at, head, n, w)?;
+    let at = store.windows[window(kind, code)].start + offset as usize;
+    emplace(memory, at, object)?;
     claim(store, kind, space, offset, size);
     store.registers[to] = words::pointer_word(kind.shape().code, code, offset);
     Ok(0)

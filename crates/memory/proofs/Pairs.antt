@@ -1,6 +1,9 @@
 -- Laws of words stored as halves: their number, the word at a place, and a write of both halves of a word.
-use Rattle.std.proofs.Common.{◌≡◌, ℕ, zero, suc, ◌+◌, ◌*◌, ◌/◌, ◌<◌, List, [], ◌∷◌, length, get_or, set, refl, ap, arith}
+use Rattle.std.proofs.Common.{◌≡◌, ℕ, zero, suc, ◌+◌, ◌*◌, ◌/◌, ◌<◌, ◌≤◌, List, [], ◌∷◌, length, get_or, set, refl, ap, arith}
+use Rattle.std.proofs.lemmas.List.{length-set}
+use Rattle.std.specs.Simd.{first_chunks}
 use Rattle.words.specs.Words.{joined, low_half, high_half}
+use Rattle.words.proofs.Coding.{joined-halves}
 use Rattle.memory.specs.Halves.{paired, left_out}
 
 pub length-paired : (hs : List ℕ) → length (paired hs) ≡ length hs / 2
@@ -53,3 +56,16 @@ paired-fits [] b k = omega arith
 paired-fits (lo ∷ []) b k = omega arith
 paired-fits (lo ∷ (hi ∷ rest)) b zero = omega (arith, b 0, b 1)
 paired-fits (lo ∷ (hi ∷ rest)) b (suc k) = paired-fits rest (λ j. b (suc (suc j))) k
+
+-- Chunk i of two halves is the halves 2i and 2i + 1.
+pub get_or-chunks : (hs : List ℕ) (n i : ℕ) → n ≤ length hs / 2 → i < n → get_or (first_chunks 2 n hs) i [] ≡ get_or hs (2 * i) 0 ∷ (get_or hs (2 * i + 1) 0 ∷ [])
+get_or-chunks hs zero i h l = absurd (omega arith)
+get_or-chunks [] (suc n) i h l = absurd (omega arith)
+get_or-chunks (lo ∷ []) (suc n) i h l = absurd (omega arith)
+get_or-chunks (lo ∷ (hi ∷ rest)) (suc n) zero h l = refl
+get_or-chunks (lo ∷ (hi ∷ rest)) (suc n) (suc i) h l =
+    let e : 2 * suc i ≡ suc (suc (2 * i)) = omega arith in
+    let f : suc (suc (2 * i)) + 1 ≡ suc (suc (2 * i + 1)) = omega arith in
+    rw (e, f) (get_or-chunks rest n i (omega arith) (omega arith))
+
+pub ruleset halved = (length-paired, length-set, paired-set, left_out-set, joined-halves)

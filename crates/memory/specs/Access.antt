@@ -19,3 +19,7 @@ Pastes ws a xs ws' r = MatchResult r (λ _. (a + length xs ≤ length ws) × (ws
 -- The same of a block of n words w.
 abbrev pub Fills : {T E : Type 0} → List ℕ → ℕ → ℕ → ℕ → List ℕ → Result T E → Type 0
 Fills ws a n w ws' r = MatchResult r (λ _. (a + n ≤ length ws) × (ws' ≡ pasted ws a (replicate n w))) (λ _. (length ws < a + n) × (ws' ≡ ws))
+
+-- Where a call at the place i of a block may give the word r, the words ws have r there.
+abbrev pub Gives : (ℕ → ℕ → Type 0) → List ℕ → Type 0
+Gives call ws = (i r : ℕ) → i < length ws → call i r → r ≡ slice_index ws i

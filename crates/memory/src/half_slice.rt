@@ -10,6 +10,7 @@ use words::{high_half, join_halves, low_half};
 #[derive(Drop)]
 pub struct Halves<'a>(pub &'a mut [u16]);
 
+#[tactic(auto, using(crate::proofs::Pairs::halved))]
 impl<'a> WordMemory for Halves<'a> {
     ghost words = { λ s. paired s.0.now };
 
@@ -20,13 +21,13 @@ impl<'a> WordMemory for Halves<'a> {
     }
 
     fn read(&self, i: usize) -> Result<u32, OutOfRange> {
-        if i < self.0.len() / 2 {
-            Ok(join_halves(self.0[2 * i], self.0[2 * i + 1]))
-        } else {
-            Err(OutOfRange)
+        match self.0.as_chunks::<2>().0.get(i) {
+            Some([low, high]) => Ok(join_halves(*low, *high)),
+            None => Err(OutOfRange),
         }
     }
 
+    // By index, since after `as_chunks_mut` nothing is known of the slice's elements.
     fn write(&mut self, i: usize, w: u32) -> Result<(), OutOfRange>
         ensures after { Writes (paired self.old.0.now) i w (paired self.new.0.now) result }
         ensures lender { self.new.0.ghost_name ≡ self.old.0.ghost_name }

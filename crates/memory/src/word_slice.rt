@@ -15,13 +15,10 @@ impl<'a> WordMemory for Words<'a> {
     }
 
     fn read(&self, i: usize) -> Result<u32, OutOfRange> {
-        if i < self.0.len() {
-            Ok(self.0[i])
-        } else {
-            Err(OutOfRange)
-        }
+        self.0.get(i).copied().ok_or(OutOfRange)
     }
 
+    // By index, since after `get_mut` nothing is known of the slice's elements.
     fn write(&mut self, i: usize, w: u32) -> Result<(), OutOfRange> {
         if i < self.0.len() {
             self.0[i] = w;

@@ -1,14 +1,14 @@
 -- Which bytes are the decimal digits of a number.
 
-use Rattle.std.proofs.Common.{◌≡◌, ℕ, suc, ◌+◌, ◌-◌, ◌*◌, ◌^◌, ◌<◌, ◌≤◌, List, length, get_or, take, drop, ℤ, pos, negsuc, decimal, fold, sym, refl, ap, ◌∙◌, ⊎_elim, arith, rules}
+use Rattle.std.proofs.Common.{◌≡◌, ℕ, suc, ◌+◌, ◌-◌, ◌*◌, ◌^◌, ◌<◌, ◌≤◌, List, length, get_or, take, drop, ℤ, pos, negsuc, zero, decimal, fold, sym, refl, ap, ◌∙◌, ⊎_elim, arith, rules}
+use lib.Signed.{mag}
 use Rattle.std.specs.Int.{IsInRange}
 use Rattle.std.specs.Fmt.{signed_decimal}
-use Rattle.std.proofs.lemmas.Fmt.{digits_decimal, decimal-digits_value, decimal_nonempty, decimal_digit, first_decimal, length-decimal-le}
+use Rattle.std.proofs.lemmas.Fmt.{digits_decimal, decimal-digits_value, decimal_nonempty, decimal_digit, first_decimal, length-decimal-le, decimal_injective, signed_decimal_injective}
 use Rattle.std.proofs.lemmas.Str.Parse.{IsNumeralModel, numerals_by_fold, tells_by_index, digits_value_short}
 use Rattle.std.proofs.lemmas.List.{take_rest}
-use Rattle.std.proofs.lemmas.Slice.{first_rest}
 use Rattle.std.proofs.lemmas.Bool.{cases_lt}
-use Rattle.numerals.specs.Numbers.{Small, SmallSigned}
+use Rattle.numerals.specs.Numbers.{Small, SmallSigned, Graphic}
 
 -- Every byte is a digit.
 abbrev pub AllDigits : List ℕ → Type 0
@@ -61,9 +61,21 @@ pub signed-minus : (s : List ℕ) (z : ℤ) → s ≡ signed_decimal z → Small
 signed-minus s (pos n) e h m = let d = numeral-from-decimal s n e h in let z : ⊥ = omega (arith, d.digits 0 d.some) in absurd z
 signed-minus s (negsuc n) e h m = (n, refl, take_rest s 1 ∙ ap (drop 1) e, h)
 
-pub minus-decimal : (s : List ℕ) (n : ℕ) → 0 < length s → get_or s 0 0 ≡ 45 → take (length s - 1) (drop 1 s) ≡ decimal (suc n) → s ≡ signed_decimal (negsuc n)
-minus-decimal s n h m e = first_rest s 0 h ∙ cc
+pub decimal-graphic : (n : ℕ) → Small n → Graphic (decimal n)
+decimal-graphic n h i l = omega (arith, (numeral-decimal n h).digits i l)
 
-pub signed-some : (s : List ℕ) (z : ℤ) → s ≡ signed_decimal z → SmallSigned z → 0 < length s
-signed-some s (pos n) e h = (numeral-from-decimal s n e h).some
-signed-some s (negsuc n) e h = omega (arith, ap length e)
+pub signed-graphic : (z : ℤ) → SmallSigned z → Graphic (signed_decimal z)
+signed-graphic (pos n) h i l = decimal-graphic n h i l
+signed-graphic (negsuc n) h zero l = omega arith
+signed-graphic (negsuc n) h (suc i) l = decimal-graphic (suc n) h i (omega arith)
+
+signed-bound : (z : ℤ) → SmallSigned z → mag z < 2 ^ 63
+signed-bound (pos n) h = omega arith
+signed-bound (negsuc n) h = omega arith
+
+-- No two numbers are spelled alike.
+pub decimal-one : (m n : ℕ) → Small m → Small n → decimal m ≡ decimal n → m ≡ n
+decimal-one m n h k e = decimal_injective m n (omega arith) (omega arith) e
+
+pub signed-one : (y z : ℤ) → SmallSigned y → SmallSigned z → signed_decimal y ≡ signed_decimal z → y ≡ z
+signed-one y z h k e = signed_decimal_injective y z (signed-bound y h) (signed-bound z k) e

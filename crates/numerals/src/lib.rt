@@ -15,18 +15,18 @@ const MAX_DIGITS: usize = 9;
 pub fn number(text: &[u8]) -> Result<u32, NoForm>
     ensures { Parses decimal Small text.now result }
 {
-    if text.len() == 0 || text.len() > MAX_DIGITS {
+    if text.is_empty() || text.len() > MAX_DIGITS {
         return Err(NoForm);
     }
-    if text.len() > 1 && text[0] == b'0' {
+    if let [b'0', _, ..] = text {
         return Err(NoForm);
     }
-    let mut n: u32 = 0;
+    let mut n = 0;
     for b in text {
-        if *b < b'0' || *b > b'9' {
+        if !b.is_ascii_digit() {
             return Err(NoForm);
         }
-        n = n * 10 + (*b - b'0') as u32;
+        n = n * 10 + u32::from(*b - b'0');
     }
     Ok(n)
 }
@@ -35,14 +35,11 @@ pub fn number(text: &[u8]) -> Result<u32, NoForm>
 pub fn signed_number(text: &[u8]) -> Result<i32, NoForm>
     ensures { Parses signed_decimal SmallSigned text.now result }
 {
-    if text.len() == 0 {
-        return Err(NoForm);
-    }
-    match text[0] as char {
-        '-' => {
-            let n = number(&text[1..])?;
-            if n == 0 { Err(NoForm) } else { Ok(-(n as i32)) }
-        }
+    match text {
+        [b'-', digits @ ..] => match number(digits)? {
+            0 => Err(NoForm),
+            n => Ok(-(n as i32)),
+        },
         _ => Ok(number(text)? as i32),
     }
 }

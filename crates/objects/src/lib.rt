@@ -56,6 +56,7 @@ fn packed_cells(kind: Kind, size: usize, second: u32) -> Option<u32>
 }
 
 /// The cells and access type of an object, from its head.
+#[tactic(auto, unfolding(crate::specs::Open::measured))]
 fn measure<M: WordMemory>(
     memory: &M,
     kind: Kind,
@@ -65,26 +66,24 @@ fn measure<M: WordMemory>(
     ensures { result ≡ measured (M.WordMemory.words memory.now) kind base size }
 {
     if kind.shape().boxed {
-        return match boxed_cells(kind, size) {
-            Some(cells) => Ok((cells, 0)),
-            None => Err(foreign(base as usize)),
-        };
+        let cells = boxed_cells(kind, size).ok_or(foreign(base as usize))?;
+        return Ok((cells, 0));
     }
     let second = memory.read(base as usize + 1)?;
-    match packed_cells(kind, size, second) {
-        Some(cells) => Ok((cells, words::access_type(second))),
-        None => Err(foreign(base as usize + 1)),
-    }
+    let cells = packed_cells(kind, size, second).ok_or(foreign(base as usize + 1))?;
+    Ok((cells, words::access_type(second)))
 }
 
 /// The place that a word of this kind points to.
+#[tactic(auto, unfolding(crate::specs::Open::located))]
 fn locate(store: &Store, kind: Kind, w: u32) -> u32
     ensures { result ≡ located (table_of store.now) kind w }
 {
-    store.starts[window(kind, words::space_code(w))] as u32 + words::pointer_offset(w)
+    store.windows[window(kind, words::space_code(w))].start as u32 + words::pointer_offset(w)
 }
 
 /// The words of the object of this kind that a word points to.
+#[tactic(auto, unfolding(crate::specs::Open::extent))]
 fn extent<M: WordMemory>(store: &Store, memory: &M, kind: Kind, w: u32) -> Result<usize, Refusal>
     ensures { result ≡ extent (table_of store.now) (M.WordMemory.words memory.now) kind w }
 {
@@ -104,12 +103,11 @@ fn extent<M: WordMemory>(store: &Store, memory: &M, kind: Kind, w: u32) -> Resul
 }
 
 /// The object that a word leads to.
+#[tactic(auto, unfolding(crate::specs::Open::opened))]
 pub fn open<M: WordMemory>(store: &Store, memory: &M, w: u32) -> Result<Opened, Refusal>
     ensures { result ≡ opened (table_of store.now) (M.WordMemory.words memory.now) w }
 {
-    let Some(kind) = Kind::of_code(words::type_code(w)) else {
-        return Err(Refusal::WrongKind);
-    };
+    let kind = Kind::try_from(words::type_code(w))?;
     let size = extent(store, memory, kind, w)?;
     let base = locate(store, kind, w);
     let (cells, access) = measure(memory, kind, base, size)?;

@@ -7,7 +7,7 @@ use Rattle.answers.specs.declared.TextFault.{TextFault}
 use Rattle.answers.specs.Numbers.{place_of}
 use Rattle.graph.specs.Calls.{State}
 use Rattle.layout.specs.Machine.{Machine}
-use Rattle.store.specs.Spaces.{space_at}
+use Rattle.spaces.specs.Spaces.{space_at}
 use Rattle.store.specs.Checks.{admitted, long_enough}
 use Rattle.access.specs.Access.{with_space}
 use Rattle.lines.specs.Lines.{lines_of}

@@ -1,11 +1,12 @@
 -- One line more of a text, or its end.
 use Rattle.std.proofs.Common.{◌≡◌, ℕ, suc, ◌+◌, List, [], ◌∷◌, Ok, Err, Result, sym, ap, ◌∙◌, subst, add-one, arith}
+use Rattle.store.proofs.Laid.{ordered}
 use Rattle.answers.specs.declared.Refusal.{Refusal}
 use Rattle.answers.specs.declared.TextFault.{TextFault}
 use Rattle.layout.specs.Machine.{Machine}
 use Rattle.store.specs.declared.state.Store.{Store}
-use Rattle.store.specs.declared.space.Space.{Space}
-use Rattle.store.specs.Spaces.{code_of}
+use Rattle.spaces.specs.declared.Space.{Space}
+use Rattle.spaces.specs.Spaces.{code_of}
 use Rattle.store.specs.View.{view}
 use Rattle.laws.proofs.Views.{view-clean, code-small}
 use Rattle.opening.specs.Opening.{lined, fault_at, summed, LineRuns, Settled, Runs, ended, goes, stops}
@@ -38,4 +39,4 @@ module _ (control bindings : ℕ) (G : Machine → Result ℕ TextFault → Type
 
 -- a store between calls is settled
 pub view-settled : (s : Store) (space : Space) (ws : List ℕ) → Settled (view s (code_of space) ws)
-view-settled s space ws = record { clean = view-clean s; ordered = s.ordered; which = s.which; spaced = code-small space }
+view-settled s space ws = record { clean = view-clean s; ordered = ordered s; which = s.which; spaced = code-small space }

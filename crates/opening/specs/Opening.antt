@@ -3,9 +3,9 @@ use Rattle.std.specs.Prelude.{◌≡◌, ℕ, suc, ◌+◌, ◌-◌, ◌^◌, �
 use Rattle.answers.specs.declared.Refusal.{Refusal}
 use Rattle.answers.specs.declared.Refusal.TheVariants.{Unknown, Short, NoForm, Foreign, TooLong}
 use Rattle.answers.specs.declared.Place.{Place}
-use Rattle.store.specs.Spaces.{space_at}
+use Rattle.spaces.specs.Spaces.{space_at}
 use Rattle.store.specs.Checks.{admitted, long_enough}
-use Rattle.promises.specs.Promise.{Depicts, short, Within, noted}
+use Rattle.promises.specs.Promise.{Depicts, short, Within, noted, noted_of}
 use Rattle.lines.specs.Lines.{lines_of}
 use Rattle.answers.specs.declared.TextFault.{TextFault}
 use Rattle.graph.specs.Calls.{State, Call, outcome, with_graph, is_space, with_space as with_space_of, put, read, write, make_list, make_symbol, make_vector, make_string, make_words}
@@ -125,8 +125,7 @@ TextAnswers short n text s m' r =
 
 -- What a fault leaves of a machine: a foreign word is remembered.
 abbrev pub fault_noted : Result ℕ TextFault → Machine → Machine
-fault_noted (Ok k) m = m
-fault_noted (Err f) m = noted f.refusal m
+fault_noted r m = noted_of (λ f. f.refusal) r m
 
 -- What opening a text promises of the machine m that it found, the machine m' that it left and its answer r.
 pub record TextPromised (control bindings n : ℕ) (text : List ℕ) (m m' : Machine) (r : Result ℕ TextFault) : Type 0 where

@@ -2,56 +2,48 @@
 #![tactic(auto)]
 
 ghost use Rattle.std.specs.Prelude.{◌≡◌, ℕ, length};
-ghost use Rattle.store.specs.Spaces.{code_of};
+ghost use Rattle.spaces.specs.Spaces.{code_of};
+ghost use Rattle.loan.specs.Lent.{GivenBack};
 ghost use Rattle.store.specs.View.{view};
 ghost use Rattle.lines.specs.Lines.{lines_of};
 ghost use Rattle.opening.specs.Opening.{performed, lined, LineRuns, Runs};
 
 use access::{put, read, write};
 use answers::{Refusal, TextFault};
+use loan::Loan;
 use making::{make_list, make_string, make_symbol, make_vector, make_words};
 use memory::WordMemory;
-use parttext::{Line, Part, Reader, parse_line};
-use stacks::Binding;
+use parttext::{Line, Part, Reader};
 use store::{Space, Store};
 
 /// Does what a line spells, new objects going to this space.
+#[tactic(auto, unfolding(crate::specs::Opening::performed))]
 pub fn perform<M: WordMemory>(
     store: &mut Store,
-    memory: &mut M,
-    control: &[u32],
-    bindings: &[Binding],
+    loan: &mut Loan<M>,
     space: Space,
     line: Line,
 ) -> Result<u64, Refusal>
-    ensures performs { (view store.new (code_of space) (M.WordMemory.words memory.new), result)
-        ≡ performed (length control.now) (length bindings.now) line (view store.old (code_of space) (M.WordMemory.words memory.old)) }
-    ensures lender { M.WordMemory.lender memory.new ≡ M.WordMemory.lender memory.old }
+    ensures performs { (view store.new (code_of space) (M.WordMemory.words loan.new.memory), result)
+        ≡ performed (length loan.old.control.now) (length loan.old.bindings.now) line (view store.old (code_of space) (M.WordMemory.words loan.old.memory)) }
+    ensures lent { GivenBack M.WordMemory.lender loan.old loan.new }
 {
     match line {
         Line::Put { to, value } => {
-            put(store, memory, control, bindings, to, value)?;
+            put(store, loan, to, value)?;
             Ok(0)
         }
-        Line::List { to, car, cdr } => make_list(
-            store, memory, control, bindings, space, to, car, cdr,
-        ),
-        Line::Symbol { to, name } => make_symbol(store, memory, control, bindings, space, to, name),
-        Line::Vector { to, count, fill } => make_vector(
-            store, memory, control, bindings, space, to, count, fill,
-        ),
-        Line::String { to, count } => make_string(
-            store, memory, control, bindings, space, to, count,
-        ),
-        Line::Words { to, count, access } => make_words(
-            store, memory, control, bindings, space, to, count, access,
-        ),
+        Line::List { to, car, cdr } => make_list(store, loan, space, to, car, cdr),
+        Line::Symbol { to, name } => make_symbol(store, loan, space, to, name),
+        Line::Vector { to, count, fill } => make_vector(store, loan, space, to, count, fill),
+        Line::String { to, count } => make_string(store, loan, space, to, count),
+        Line::Words { to, count, access } => make_words(store, loan, space, to, count, access),
         Line::Read { to, from, at } => {
-            read(store, memory, control, bindings, to, from, at)?;
+            read(store, loan, to, from, at)?;
             Ok(0)
         }
         Line::Write { into, at, value } => {
-            write(store, memory, control, bindings, into, at, value)?;
+            write(store, loan, into, at, value)?;
             Ok(0)
         }
     }
@@ -60,50 +52,38 @@ pub fn perform<M: WordMemory>(
 /// Does what a line of a text spells.
 fn run_line<M: WordMemory>(
     store: &mut Store,
-    memory: &mut M,
-    control: &[u32],
-    bindings: &[Binding],
+    loan: &mut Loan<M>,
     space: Space,
     line: Part,
 ) -> Result<u64, Refusal>
-    ensures runs { LineRuns (length control.now) (length bindings.now) line.entry.bytes.now
-        (view store.old (code_of space) (M.WordMemory.words memory.old)) (view store.new (code_of space) (M.WordMemory.words memory.new)) result }
-    ensures lender { M.WordMemory.lender memory.new ≡ M.WordMemory.lender memory.old }
+    ensures runs { LineRuns (length loan.old.control.now) (length loan.old.bindings.now) line.entry.bytes.now
+        (view store.old (code_of space) (M.WordMemory.words loan.old.memory)) (view store.new (code_of space) (M.WordMemory.words loan.new.memory)) result }
+    ensures lent { GivenBack M.WordMemory.lender loan.old loan.new }
 {
-    let call = parse_line(line)?;
-    perform(store, memory, control, bindings, space, call)
+    perform(store, loan, space, Line::try_from(line)?)
 }
 
 /// A refusal with the line that it came from.
 pub fn at_line<T>(line: u64, r: Result<T, Refusal>) -> Result<T, TextFault>
     ensures { result ≡ lined line r }
 {
-    match r {
-        Ok(value) => Ok(value),
-        Err(refusal) => Err(TextFault { line, refusal }),
-    }
+    r.map_err(|refusal| TextFault { line, refusal })
 }
 
 /// Does what the lines of a text spell, up to the first that is refused, and answers the sum of their counts.
 pub fn run_lines<M: WordMemory>(
     store: &mut Store,
-    memory: &mut M,
-    control: &[u32],
-    bindings: &[Binding],
+    loan: &mut Loan<M>,
     space: Space,
     text: &[u8],
 ) -> Result<u64, TextFault>
-    ensures runs { Runs (length control.now) (length bindings.now)
-        (view store.old (code_of space) (M.WordMemory.words memory.old)) 1 0 (lines_of text.now) (view store.new (code_of space) (M.WordMemory.words memory.new)) result }
-    ensures lender { M.WordMemory.lender memory.new ≡ M.WordMemory.lender memory.old }
+    ensures runs { Runs (length loan.old.control.now) (length loan.old.bindings.now)
+        (view store.old (code_of space) (M.WordMemory.words loan.old.memory)) 1 0 (lines_of text.now) (view store.new (code_of space) (M.WordMemory.words loan.new.memory)) result }
+    ensures lent { GivenBack M.WordMemory.lender loan.old loan.new }
 {
-    let mut reader = Reader::new(text);
     let mut total = 0u64;
-    while let Some(line) = reader.next_line() {
-        let count = at_line(
-            line.line,
-            run_line(store, memory, control, bindings, space, line),
-        )?;
+    for line in Reader::new(text) {
+        let count = at_line(line.line, run_line(store, loan, space, line))?;
         total = total.saturating_add(count);
     }
     Ok(total)

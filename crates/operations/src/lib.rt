@@ -1,10 +1,11 @@
 // The operations of a part text, and their names.
 #![tactic(auto)]
 
-ghost use Rattle.std.specs.Prelude.{◌≡◌, Decides};
-ghost use Rattle.numerals.specs.Numbers.{Parses};
+ghost use Rattle.std.specs.Prelude.{◌≡◌};
 ghost use Rattle.operations.specs.Names.{name_of};
+ghost use Rattle.operations.specs.Laws.{name_laws};
 
+use literals::Spelled;
 use numerals::NoForm;
 
 /// An operation, as the field `op` names it.
@@ -31,13 +32,6 @@ const OPS: [Op; 8] = [
     Op::Write,
 ];
 
-// Whether the two are the same bytes.
-fn same(a: &[u8], b: &[u8]) -> bool
-    ensures { Decides result (a.now ≡ b.now) }
-{
-    a == b
-}
-
 impl Op {
     /// The name that the field `op` has for it.
     pub fn name(self) -> &'static [u8]
@@ -54,16 +48,20 @@ impl Op {
             Op::Write => b"write",
         }
     }
+}
+
+impl Spelled for Op {
+    ghost spelling = { name_of };
+
+    ghost fits = { λ _. Unit {0} };
+
+    ghost laws = { name_laws };
 
     /// The operation of this name.
-    pub fn named(name: &[u8]) -> Result<Op, NoForm>
-        ensures { Parses name_of (λ _. Unit {0}) name.now result }
-    {
-        for op in OPS {
-            if same(name, op.name()) {
-                return Ok(op);
-            }
-        }
-        Err(NoForm)
+    fn parse(name: &[u8]) -> Result<Op, NoForm> {
+        OPS.iter()
+            .copied()
+            .find(|op| op.name() == name)
+            .ok_or(NoForm)
     }
 }

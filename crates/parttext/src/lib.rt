@@ -4,11 +4,10 @@
 ghost use Rattle.std.specs.Prelude.{◌≡◌, ℕ, MatchResult};
 ghost use Rattle.numerals.specs.Numbers.{Parses};
 ghost use Rattle.parttext.specs.declared.Line.{Line};
-ghost use Rattle.parttext.specs.Grammar.{SmallLine, Spells, fields_text, form_of};
+ghost use Rattle.parttext.specs.Grammar.{SmallLine, Spells, fields_text, form_of, line_text};
 
-use fields::{take_field, three_numbers, two_numbers};
+use fields::{next_field, three_fields, two_fields};
 pub use lines::{Part, Reader};
-use literals::number_and_literal;
 pub use numerals::NoForm;
 pub use operations::Op;
 use words::Literal;
@@ -26,16 +25,16 @@ pub enum Line {
     Write { into: u32, at: u32, value: u32 },
 }
 
-/// The call that a line spells, its byte 10 included.
-pub fn parse_line(line: Part) -> Result<Line, NoForm>
-    ensures { MatchResult result
-        (λ c. Spells c line.entry.bytes.now)
-        (λ _. (c : Line) → Spells c line.entry.bytes.now → ⊥) }
-{
-    let (field, rest) = take_field(line, b"op", b' ')?;
-    let op = Op::named(field.value)?;
-    let call = call_of(op, rest)?;
-    Ok(call)
+impl<'a> TryFrom<Part<'a>> for Line {
+    type Error = NoForm;
+
+    ghost try_from_gives = { λ part r. Parses line_text SmallLine part.bytes.now r };
+
+    /// The call that a line spells, its byte 10 included.
+    fn try_from(line: Part<'a>) -> Result<Line, NoForm> {
+        let (op, rest) = next_field::<Op>(line, b"op")?;
+        call_of(op, rest)
+    }
 }
 
 // The call of this operation whose fields the rest of the line holds.
@@ -44,35 +43,35 @@ fn call_of(op: Op, rest: Part) -> Result<Line, NoForm>
 {
     match op {
         Op::Put => {
-            let (to, value) = number_and_literal(rest, b"to", b"value")?;
+            let (to, value) = two_fields(rest, b"to", b"value")?;
             Ok(Line::Put { to, value })
         }
         Op::List => {
-            let (to, car, cdr) = three_numbers(rest, b"to", b"car", b"cdr")?;
+            let (to, car, cdr) = three_fields(rest, b"to", b"car", b"cdr")?;
             Ok(Line::List { to, car, cdr })
         }
         Op::Symbol => {
-            let (to, name) = two_numbers(rest, b"to", b"name")?;
+            let (to, name) = two_fields(rest, b"to", b"name")?;
             Ok(Line::Symbol { to, name })
         }
         Op::Vector => {
-            let (to, count, fill) = three_numbers(rest, b"to", b"count", b"fill")?;
+            let (to, count, fill) = three_fields(rest, b"to", b"count", b"fill")?;
             Ok(Line::Vector { to, count, fill })
         }
         Op::String => {
-            let (to, count) = two_numbers(rest, b"to", b"count")?;
+            let (to, count) = two_fields(rest, b"to", b"count")?;
             Ok(Line::String { to, count })
         }
         Op::Words => {
-            let (to, count, access) = three_numbers(rest, b"to", b"count", b"access")?;
+            let (to, count, access) = three_fields(rest, b"to", b"count", b"access")?;
             Ok(Line::Words { to, count, access })
         }
         Op::Read => {
-            let (to, from, at) = three_numbers(rest, b"to", b"from", b"at")?;
+            let (to, from, at) = three_fields(rest, b"to", b"from", b"at")?;
             Ok(Line::Read { to, from, at })
         }
         Op::Write => {
-            let (into, at, value) = three_numbers(rest, b"into", b"at", b"value")?;
+            let (into, at, value) = three_fields(rest, b"into", b"at", b"value")?;
             Ok(Line::Write { into, at, value })
         }
     }

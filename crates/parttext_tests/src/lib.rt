@@ -3,15 +3,12 @@
 
 #[cfg(test)]
 mod tests {
-    use parttext::{Line, NoForm, Part, Reader, parse_line};
+    use parttext::{Line, Part, Reader};
     use std::test::Fail;
     use words::Literal;
 
     fn parsed(bytes: &[u8]) -> Option<Line> {
-        match parse_line(Part { bytes, line: 1 }) {
-            Ok(line) => Some(line),
-            Err(NoForm) => None,
-        }
+        Line::try_from(Part { bytes, line: 1 }).ok()
     }
 
     #[test]
@@ -140,16 +137,16 @@ mod tests {
     #[test]
     fn lines_come_with_their_numbers(rt: HostRuntime) -> Result<(), Fail> {
         let mut reader = Reader::new(b"op=put to=0 value=f7\n\nop=put");
-        let first = reader.next_line().ok_or("no first line")?;
+        let first = reader.next().ok_or("no first line")?;
         assert_eq!(rt; first.line, 1);
         assert_eq!(rt; first.bytes.len(), 21);
-        let second = reader.next_line().ok_or("no second line")?;
+        let second = reader.next().ok_or("no second line")?;
         assert_eq!(rt; second.line, 2);
         assert_eq!(rt; second.bytes.len(), 1);
-        let last = reader.next_line().ok_or("no last line")?;
+        let last = reader.next().ok_or("no last line")?;
         assert_eq!(rt; last.line, 3);
         assert_eq!(rt; last.bytes.len(), 6);
-        assert!(rt; reader.next_line().is_none());
+        assert!(rt; reader.next().is_none());
         Ok(())
     }
 }

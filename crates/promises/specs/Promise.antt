@@ -61,10 +61,14 @@ Keeps m m' (Err e) = m' ≡ noted e m
 abbrev pub Sticks : {A : Type 0} → Machine → Result A Refusal → Type 0
 Sticks m r = (p : Place) → m.foreign ≡ Some p → r ≡ Err (Foreign p)
 
--- What a call that answered r leaves of a machine: a foreign word is remembered.
+-- What a call that answered r leaves of a machine: a foreign word is remembered that an error's refusal names.
+abbrev pub noted_of : {A E : Type 0} → (E → Refusal) → Result A E → Machine → Machine
+noted_of cause (Ok a) m = m
+noted_of cause (Err e) m = noted (cause e) m
+
+-- The same where the error is the refusal itself.
 abbrev pub noted_by : {A : Type 0} → Result A Refusal → Machine → Machine
-noted_by (Ok a) m = m
-noted_by (Err e) m = noted e m
+noted_by r m = noted_of (λ e. e) r m
 
 -- What every call promises of the machine m that it found, the machine m' that it left and its answer r: whatever m was, it did the step
 -- f and remembered a foreign word; where m shows a state it answered as the call c does; it kept to the windows; and it repeats a 17.

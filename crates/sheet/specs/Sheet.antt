@@ -7,6 +7,7 @@ use Rattle.graph.specs.Calls.{State, told}
 use Rattle.fresh.specs.declared.windows.Windows.{Windows}
 use Rattle.fresh.specs.Windows.{empty_state}
 use Rattle.layout.specs.Machine.{Machine}
+use Rattle.loan.specs.declared.Loan.{Loan}
 use Rattle.store.specs.Checks.{long_enough}
 use Rattle.promises.specs.Promise.{Depicts}
 use Rattle.lines.specs.Lines.{lines_of}
@@ -16,6 +17,10 @@ use Rattle.listing.specs.Listing.{listing, fault_text}
 -- The machine shows the state, and stacks without an entry and this memory are enough for it.
 abbrev pub Still : Machine → State → Type 0
 Still m s = Depicts m s × (long_enough m.table (length m.words) 0 0 ≡ true)
+
+-- A loan whose stacks have no room.
+abbrev pub Unstacked : {M : Type 0} → Loan M → Type 0
+Unstacked l = (length l.control.now ≡ 0) × (length l.bindings.now ≡ 0)
 
 -- Dynamic windows of 512 words for each kind, and nothing else.
 abbrev pub sheet_windows : List Windows

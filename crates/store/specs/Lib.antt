@@ -1,4 +1,4 @@
-pub mod Spaces
+pub mod Windows
 pub mod View
 pub mod Checks
 pub mod Flow

@@ -1,11 +1,17 @@
 -- A store and its memory as a machine.
-use Rattle.std.specs.Prelude.{ℕ, List, [], replicate}
+use Rattle.std.specs.Prelude.{ℕ, List, [], map, replicate}
+use Rattle.layout.specs.Fresh.{starts_from}
 use Rattle.layout.specs.Machine.{Table, Stacks, Machine}
+use Rattle.store.specs.declared.windows.Window.{Window}
 use Rattle.store.specs.declared.state.Store.{Store}
+
+-- How many words each window has.
+abbrev pub rooms_of : Store → List ℕ
+rooms_of s = map (λ (w : Window). w.room) s.windows
 
 -- The windows of a store, with no word dirty.
 abbrev pub table_of : Store → Table
-table_of s = record { starts = s.starts; lows = s.lows; highs = s.highs; froms = replicate 20 0; tos = replicate 20 0; frozen = s.frozen; held = replicate 5 0; now = s.newspace }
+table_of s = record { starts = starts_from 0 (rooms_of s); lows = map (λ (w : Window). w.low) s.windows; highs = map (λ (w : Window). w.high) s.windows; froms = replicate 20 0; tos = replicate 20 0; frozen = s.frozen; held = replicate 5 0; now = s.newspace }
 
 -- The registers of a store, with stacks that are not in use.
 abbrev pub stacks_of : Store → Stacks

@@ -2,20 +2,21 @@
 #![tactic(auto)]
 
 ghost use Rattle.std.specs.Prelude.{◌≡◌, ℕ, ◌+◌, ◌*◌, Bool, true, length, OnOk};
-ghost use Rattle.layout.specs.Machine.{now_space, window as window_of};
-ghost use Rattle.store.specs.Spaces.{code_of};
+ghost use Rattle.layout.specs.Machine.{now_space, start, window as window_of};
+ghost use Rattle.spaces.specs.Spaces.{code_of};
 ghost use Rattle.store.specs.View.{table_of};
 ghost use Rattle.store.specs.Checks.{admitted, long_enough, in_use, reaches, dynamic_word};
 
 use answers::Refusal;
 use kinds::Kind;
+use loan::Loan;
 use memory::WordMemory;
-pub use space::Space;
-use stacks::{Binding, stacks_fit};
+pub use spaces::Space;
 pub use state::{REGISTERS, Store, WINDOWS};
+pub use windows::Window;
 
-mod space;
 mod state;
+mod windows;
 
 /// The window of this kind and space code.
 pub fn window(kind: Kind, space: u32) -> usize
@@ -25,23 +26,19 @@ pub fn window(kind: Kind, space: u32) -> usize
 }
 
 /// The word points into dynamic space.
+#[tactic(auto, unfolding(crate::specs::Checks::dynamic_word))]
 pub fn is_dynamic(w: u32) -> bool
     ensures { result ≡ dynamic_word w }
 {
-    Kind::of_code(words::type_code(w)).is_some() && words::space_code(w) < 2
+    Kind::try_from(words::type_code(w)).is_ok() && words::space_code(w) < 2
 }
 
 impl Store {
     /// What every call asks first: that no foreign word was found, that it names only registers, spaces and access types
     /// that there are, that the memory has the windows' words, and that no stack is over its limit.
-    pub fn admit<M: WordMemory>(
-        &self,
-        known: bool,
-        memory: &M,
-        control: &[u32],
-        bindings: &[Binding],
-    ) -> Result<(), Refusal>
-        ensures admits { result ≡ admitted self.now.foreign known (long_enough (table_of self.now) (length (M.WordMemory.words memory.now)) (length control.now) (length bindings.now)) }
+    #[tactic(auto, unfolding(crate::specs::Checks::admitted, crate::specs::Checks::long_enough))]
+    pub fn admit<M: WordMemory>(&self, known: bool, loan: &Loan<M>) -> Result<(), Refusal>
+        ensures admits { result ≡ admitted self.now.foreign known (long_enough (table_of self.now) (length (M.WordMemory.words loan.now.memory)) (length loan.now.control.now) (length loan.now.bindings.now)) }
         ensures known { OnOk result (known ≡ true) }
     {
         if let Some(place) = self.foreign {
@@ -50,31 +47,36 @@ impl Store {
         if !known {
             return Err(Refusal::Unknown);
         }
-        if memory.len() < self.starts[WINDOWS] || !stacks_fit(control, bindings) {
+        if !loan.has(self.end()) {
             return Err(Refusal::Short);
         }
         Ok(())
+    }
+
+    /// Where the last window ends.
+    pub fn end(&self) -> usize
+        ensures { result ≡ start (table_of self.now) 20 }
+    {
+        let last = &self.windows[WINDOWS - 1];
+        last.start + last.room
     }
 
     /// These words of a window are in use, all at its low end or all at its high end.
     pub fn in_use(&self, window: usize, offset: usize, size: usize) -> bool
         ensures { result ≡ in_use (table_of self.now) window offset size }
     {
-        if window >= WINDOWS {
-            return false;
+        match self.windows.get(window) {
+            Some(w) => w.holds(offset, size),
+            None => false,
         }
-        let room = self.starts[window + 1] - self.starts[window];
-        if offset > room || size > room - offset {
-            return false;
-        }
-        offset + size <= self.lows[window] || self.highs[window] <= offset
     }
 
     /// The word points to words in use, outside the dynamic space that is not in use, enough for the smallest object.
+    #[tactic(auto, unfolding(crate::specs::Checks::reaches))]
     pub fn reaches(&self, w: u32) -> bool
         ensures { result ≡ reaches (table_of self.now) w }
     {
-        let Some(kind) = Kind::of_code(words::type_code(w)) else {
+        let Ok(kind) = Kind::try_from(words::type_code(w)) else {
             return false;
         };
         let space = words::space_code(w);
@@ -92,8 +94,7 @@ impl Store {
     {
         match space {
             Space::Dynamic => self.newspace as u32,
-            Space::Static => 2,
-            Space::ReadOnly => 3,
+            fixed => u32::from(fixed),
         }
     }
 }

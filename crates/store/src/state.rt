@@ -1,8 +1,11 @@
 // A heap but for its allocation space: windows, cursors and registers.
-ghost use Rattle.std.specs.Prelude.{◌<◌};
-ghost use Rattle.layout.specs.Ordered.{Ordered};
+ghost use Rattle.std.specs.Prelude.{◌≡◌, ◌<◌, map, take};
+ghost use Rattle.layout.specs.Fresh.{starts_from};
+ghost use Rattle.store.specs.declared.windows.Window.{Window};
 
+use super::windows::Window;
 use answers::Place;
+use kinds::Kind;
 
 /// Registers.
 pub const REGISTERS: usize = 16;
@@ -10,22 +13,18 @@ pub const REGISTERS: usize = 16;
 /// Windows: four of each kind.
 pub const WINDOWS: usize = 20;
 
-/// The windows with their cursors, and the registers. Windows stand in order of type code, then of space code.
+/// The windows, and the registers. Windows stand in order of type code, then of space code.
 #[derive(Drop)]
 pub struct Store {
-    /// Where each window begins, and where the last one ends.
-    pub starts: [usize; 21],
-    /// Words in use from each window's low end.
-    pub lows: [usize; 20],
-    /// Where the words in use at each window's high end begin.
-    pub highs: [usize; 20],
+    pub windows: [Window; WINDOWS],
     /// Read-only words of each kind that take no writes, from the window's start.
-    pub frozen: [usize; 5],
+    pub frozen: [usize; Kind::COUNT],
     /// The dynamic space that new objects go to, 0 or 1.
     pub newspace: usize,
-    pub registers: [u32; 16],
+    pub registers: [u32; REGISTERS],
     /// Where a word was found that no call could have left.
     pub foreign: Option<Place>,
-    ghost ordered: { Ordered starts lows highs },
+    // One window follows the other.
+    ghost laid: { map (λ (w : Window). w.start) windows ≡ take 20 (starts_from 0 (map (λ (w : Window). w.room) windows)) },
     ghost which: { newspace < 2 },
 }

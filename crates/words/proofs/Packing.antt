@@ -5,6 +5,7 @@ use lib.Arith.{digits_lt}
 use Rattle.std.proofs.lemmas.List.{get_or-set_same, get_or-set_other}
 use Rattle.std.proofs.lemmas.Bool.{cases_lt}
 use Rattle.std.proofs.lemmas.Nat.{div-mul-add, mod-mul-add, pow-add, pow_pos, mod-pow-add, shr_split, shr_below, mul-le, mod_below}
+use Rattle.std.specs.Int.{div_ceil}
 use Rattle.words.specs.Packing.{bits_of, per_word, pack, packed_word, packed_count, scale_of, entry_of, with_entry}
 
 -- An entry that is not among the n from `at` on does not matter to them.
@@ -45,23 +46,22 @@ pack-write b (suc n) es at (suc t) v l m =
     let q = ap (λ x. b * x) y in
     rw (z, get_or-set_other es (at + 1 + t) at v 0 d, pow-succ' b t) (omega (arith, q))
 
+-- What holds of the five access types holds of each of them.
+each_access : (P : ℕ → Type 0) → P 0 × (P 1 × (P 2 × (P 3 × P 4))) → (a : ℕ) → a < 5 → P a
+each_access P (p, (q, (r, (s, t)))) zero l = p
+each_access P (p, (q, (r, (s, t)))) (suc zero) l = q
+each_access P (p, (q, (r, (s, t)))) (suc (suc zero)) l = r
+each_access P (p, (q, (r, (s, t)))) (suc (suc (suc zero))) l = s
+each_access P (p, (q, (r, (s, t)))) (suc (suc (suc (suc zero)))) l = t
+each_access P (p, (q, (r, (s, t)))) (suc (suc (suc (suc (suc a))))) l = absurd (omega arith)
+
 -- Entry k lies in word k / per_word, which is one of the words that the entries take.
 pub packed-in : (a n k : ℕ) → a < 5 → k < n → k / per_word a < packed_count a n
-packed-in zero n k l h = omega arith
-packed-in (suc zero) n k l h = omega arith
-packed-in (suc (suc zero)) n k l h = omega arith
-packed-in (suc (suc (suc zero))) n k l h = omega arith
-packed-in (suc (suc (suc (suc zero)))) n k l h = omega arith
-packed-in (suc (suc (suc (suc (suc a))))) n k l h = absurd (omega arith)
+packed-in a n k l h = each_access (λ a. k / per_word a < packed_count a n) (omega arith) a l
 
 -- Entry k has the place k % per_word in its word.
 pub packed-split : (a k : ℕ) → a < 5 → (k / per_word a * per_word a + k % per_word a ≡ k) × (k % per_word a < per_word a)
-packed-split zero k l = omega arith
-packed-split (suc zero) k l = omega arith
-packed-split (suc (suc zero)) k l = omega arith
-packed-split (suc (suc (suc zero))) k l = omega arith
-packed-split (suc (suc (suc (suc zero)))) k l = omega arith
-packed-split (suc (suc (suc (suc (suc a))))) k l = absurd (omega arith)
+packed-split a k = each_access (λ a. (k / per_word a * per_word a + k % per_word a ≡ k) × (k % per_word a < per_word a)) (omega arith) a
 
 -- No other word has entry k.
 pub packed-apart : (a k j : ℕ) → a < 5 → j ≢ k / per_word a → (k < j * per_word a) ⊎ (j * per_word a + per_word a ≤ k)
@@ -71,12 +71,8 @@ packed-apart a k j l d = elim (cases_lt k (j * per_word a)) [
 ]
   where
     same : (a : ℕ) → a < 5 → j * per_word a ≤ k → k < j * per_word a + per_word a → j ≡ k / per_word a
-    same zero l m n = omega arith
-    same (suc zero) l m n = omega arith
-    same (suc (suc zero)) l m n = omega arith
-    same (suc (suc (suc zero))) l m n = omega arith
-    same (suc (suc (suc (suc zero)))) l m n = omega arith
-    same (suc (suc (suc (suc (suc a))))) l m n = absurd (omega arith)
+    same = each_access (λ a. j * per_word a ≤ k → k < j * per_word a + per_word a → j ≡ k / per_word a)
+        (λ l m. omega arith, (λ l m. omega arith, (λ l m. omega arith, (λ l m. omega arith, λ l m. omega arith))))
 
 -- Entry k read from its word.
 pub packed-read : (a k : ℕ) (es : List ℕ) → a < 5 → ((j : ℕ) → get_or es j 0 < 2 ^ bits_of a) → packed_word a es (k / per_word a) / (2 ^ bits_of a) ^ (k % per_word a) % 2 ^ bits_of a ≡ get_or es k 0
@@ -95,30 +91,19 @@ packed-other a k v j es l d = pack-outside (2 ^ bits_of a) (per_word a) es (j * 
 
 -- An entry has from 1 to 16 bits.
 pub bits_inside : (a : ℕ) → a < 5 → (0 < bits_of a) × (bits_of a ≤ 16)
-bits_inside zero l = omega arith
-bits_inside (suc zero) l = omega arith
-bits_inside (suc (suc zero)) l = omega arith
-bits_inside (suc (suc (suc zero))) l = omega arith
-bits_inside (suc (suc (suc (suc zero)))) l = omega arith
-bits_inside (suc (suc (suc (suc (suc a))))) l = absurd (omega arith)
+bits_inside = each_access (λ a. (0 < bits_of a) × (bits_of a ≤ 16)) (omega arith)
 
 -- A word holds some entries.
 pub per_word-some : (a : ℕ) → a < 5 → 0 < per_word a
-per_word-some zero l = omega arith
-per_word-some (suc zero) l = omega arith
-per_word-some (suc (suc zero)) l = omega arith
-per_word-some (suc (suc (suc zero))) l = omega arith
-per_word-some (suc (suc (suc (suc zero)))) l = omega arith
-per_word-some (suc (suc (suc (suc (suc a))))) l = absurd (omega arith)
+per_word-some = each_access (λ a. 0 < per_word a) (omega arith)
+
+-- The words that entries take are as many as words of per_word entries.
+pub packed-ceil : (a n : ℕ) → a < 5 → div_ceil n (per_word a) ≡ packed_count a n
+packed-ceil a n = each_access (λ a. div_ceil n (per_word a) ≡ packed_count a n) (omega arith) a
 
 -- An entry's bits lie inside its word.
 pub shift-inside : (a k : ℕ) → a < 5 → bits_of a * (k % per_word a) + bits_of a ≤ 32
-shift-inside zero k l = omega arith
-shift-inside (suc zero) k l = omega arith
-shift-inside (suc (suc zero)) k l = omega arith
-shift-inside (suc (suc (suc zero))) k l = omega arith
-shift-inside (suc (suc (suc (suc zero)))) k l = omega arith
-shift-inside (suc (suc (suc (suc (suc a))))) k l = absurd (omega arith)
+shift-inside a k = each_access (λ a. bits_of a * (k % per_word a) + bits_of a ≤ 32) (omega arith) a
 
 pow-mul : (n i j : ℕ) → n ^ (i * j) ≡ (n ^ i) ^ j
 pow-mul n i zero = rw (mul-zero i, pow-zero n, pow-zero (n ^ i)) refl

@@ -1,4 +1,5 @@
 // Entries of 1, 2, 4, 8 or 16 bits packed into words. The access types are 0 to 4; a larger number counts modulo 5.
+// No enum of them would be plainer: callers may give any number, and each function only takes its power of two.
 ghost use Rattle.std.specs.Prelude.{◌≡◌, ℕ, ◌%◌, ◌^◌};
 ghost use Rattle.words.specs.Packing.{bits_of, per_word, packed_count, scale_of, entry_of, with_entry};
 
@@ -20,8 +21,7 @@ pub fn entries_per_word(access: u32) -> u32
 pub fn packed_words(access: u32, count: u32) -> u32
     ensures { result ≡ packed_count (access % 5) count }
 {
-    let bits = count as u64 * entry_bits(access) as u64;
-    ((bits + 31) / 32) as u32
+    count.div_ceil(entries_per_word(access))
 }
 
 /// One more than the largest entry.

@@ -1,5 +1,6 @@
 // The values that can be written out in a text or in a call.
 ghost use Rattle.std.specs.Prelude.{◌≡◌};
+ghost use Rattle.std.specs.Result.{result_ok};
 ghost use Rattle.words.specs.Literals.{word_of, literal_of};
 
 use crate::{NULL, character_word, fixnum_word};
@@ -14,30 +15,40 @@ pub enum Literal {
     Null,
 }
 
-impl Literal {
-    /// The word of a literal, unless it is out of range.
-    pub fn word(self) -> Option<u32>
-        ensures { result ≡ word_of self }
-    {
-        match self {
-            Literal::Fixnum(n) if n < -0x800_0000 || n > 0x7ff_ffff => None,
-            Literal::Fixnum(n) => Some(fixnum_word(n.cast_unsigned())),
-            Literal::Character(code) if code > 255 => None,
-            Literal::Character(code) => Some(character_word(code)),
-            Literal::Null => Some(NULL),
+/// The literal is out of range, so it has no word.
+#[derive(Clone, Copy, PartialEq, Eq, Debug)]
+pub struct NoWord;
+
+/// The word stands for no literal.
+#[derive(Clone, Copy, PartialEq, Eq, Debug)]
+pub struct NoLiteral;
+
+impl TryFrom<Literal> for u32 {
+    type Error = NoWord;
+
+    ghost try_from_gives = { λ l r. result_ok r ≡ word_of l };
+
+    fn try_from(literal: Literal) -> Result<u32, NoWord> {
+        match literal {
+            Literal::Fixnum(n @ -0x800_0000..=0x7ff_ffff) => Ok(fixnum_word(n.cast_unsigned())),
+            Literal::Character(code @ 0..=255) => Ok(character_word(code)),
+            Literal::Null => Ok(NULL),
+            Literal::Fixnum(_) | Literal::Character(_) => Err(NoWord),
         }
     }
 }
 
-/// The literal that a word stands for, if it is one.
-pub fn literal_of(w: u32) -> Option<Literal>
-    ensures { result ≡ literal_of w }
-{
-    if w >> 28 == 1 {
-        return Some(Literal::Fixnum((w << 4).cast_signed() >> 4));
+impl TryFrom<u32> for Literal {
+    type Error = NoLiteral;
+
+    ghost try_from_gives = { λ w r. result_ok r ≡ literal_of w };
+
+    fn try_from(w: u32) -> Result<Literal, NoLiteral> {
+        match w {
+            0x1000_0000..=0x1fff_ffff => Ok(Literal::Fixnum((w << 4).cast_signed() >> 4)),
+            0x0100_0000..=0x0100_00ff => Ok(Literal::Character(w % 256)),
+            NULL => Ok(Literal::Null),
+            _ => Err(NoLiteral),
+        }
     }
-    if w >> 8 == 0x1_0000 {
-        return Some(Literal::Character(w % 256));
-    }
-    if w == NULL { Some(Literal::Null) } else { None }
 }

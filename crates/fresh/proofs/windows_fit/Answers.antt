@@ -1,14 +1,11 @@
-use Rattle.std.proofs.Common.{sym, ◌∙◌, arith}
-use Rattle.fresh.specs.Windows.{no_windows}
-use Rattle.fresh.proofs.Rooms.{fit_none, fit-more, fit-less}
+use Rattle.std.proofs.Common.{◌≡◌, true, false, rules}
+use Rattle.std.proofs.lemmas.Iterator.{YieldsList-from_slice, cases_from_all}
+use borrow.Author.Tests.{tests}
+use Rattle.fresh.specs.Windows.{narrow}
+use Rattle.fresh.proofs.Rooms.{fit-cases}
 use Rattle.fresh.proofs.windows_fit.Goals as goal
 
-pub returns-then-not-fit : goal.returns-then-not-fit
-returns-then-not-fit c =
-    sym (c.loop-w.invariant ∙ fit-less c.args.windows c.loop-w.w-index no_windows (omega arith) (sym c.if-not-fit.ensures))
-
-pub loop-w-preserved : goal.loop-w-preserved
-loop-w-preserved c = c.loop-w.invariant ∙ fit-more c.args.windows c.loop-w.w-index no_windows (omega arith) (sym c.if-not-fit.ensures)
-
 pub returns : goal.returns
-returns c = sym (c.loop-w.invariant ∙ fit_none c.args.windows c.loop-w.w-index (omega arith))
+returns c =
+    fit-cases c.args.windows c.all.result
+    (cases_from_all _ _ _ (λ w. narrow w ≡ true) (λ w. narrow w ≡ false) c.all.ensures.ran (YieldsList-from_slice c.args.windows cc) (λ x q k. search (rules, tests)) (λ x q k. search (rules, tests)))

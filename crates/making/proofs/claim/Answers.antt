@@ -1,30 +1,40 @@
-use Rattle.std.proofs.Common.{◌≡◌, ◌∙◌, ap, Ok, arith, rules}
-use Rattle.store.specs.Spaces.{code_of}
+use Rattle.std.proofs.Common.{◌≡◌, ◌<◌, ◌∙◌, ◌+◌, ◌==◌, ap, sym, arith}
+use Rattle.std.proofs.Math.Seq.{map-set_same}
+use Rattle.spaces.specs.Spaces.{code_of}
 use Rattle.store.specs.View.{table_of}
-use Rattle.layout.specs.Machine.{window, now_space}
-use Rattle.making.proofs.Cursors.{claimed-ordered}
+use Rattle.store.specs.declared.windows.Window.{Window}
+use Rattle.store.proofs.Laid.{low-of, high-of, ordered, laid-still, changed-unless, changed-if}
+use Rattle.layout.specs.Machine.{window}
+use Rattle.making.specs.Make.{target, claimed}
+use Rattle.making.proofs.Room.{room-within, place-below, claimed-table}
 use Rattle.making.proofs.claim.Goals as goal
-use Rattle.making.specs.Make.{claimed, room_for}
 
-pub invariant_of-store-clause-ordered : goal.invariant_of-store-clause-ordered
-invariant_of-store-clause-ordered c =
-    let t = table_of c.args.store.now in
-    let e : room_for t c.args.kind 0 c.args.size ≡ Ok c.args.offset = rw c.in-Dynamic.is at c.requires in
-    let j : c.window-j.result ≡ window c.args.kind (now_space t.now 0) = c.window-j.ensures ∙ ap (window c.args.kind) (c.space_now.ensures ∙ ap (λ s. now_space c.args.store.now.newspace (code_of s)) c.in-Dynamic.is) in
-    rw j (claimed-ordered t c.args.kind c.args.size c.args.offset c.args.store.now.ordered c.args.store.now.which (omega arith) e)
+pub extended-requires : goal.extended-requires
+extended-requires c =
+    let s = c.args.store.now in
+    let d = c.index-store-j.result in
+    let e : c.window-j.result ≡ target (table_of s) c.args.kind (code_of c.args.space) = c.window-j.ensures ∙ ap (window c.args.kind) c.space_now.ensures in
+    let b : c.window-j.result < 20 = place-below s c.args.kind c.args.space c.window-j.result e in
+    let o = ordered s c.window-j.result b in
+    let r = room-within (table_of s) c.args.kind (code_of c.args.space) c.args.size c.args.offset (rw (sym e) o.0) c.requires in
+    let p = rw (sym e) at r in
+    (omega (arith, p.0, low-of s c.window-j.result d b), omega (arith, p.1, high-of s c.window-j.result d b))
 
-pub overflow_add-store : goal.overflow_add-store
-unfolding claimed room_for
-overflow_add-store c = search rules
+pub invariant_of-store-clause-laid : goal.invariant_of-store-clause-laid
+invariant_of-store-clause-laid c =
+    laid-still c.args.store.now.windows c.window-j.result c.extended.result c.index-store-j.result c.extended.ensures.rest.0 c.extended.ensures.rest.1 c.args.store.now.laid
 
-pub invariant_of-store-in_default : goal.invariant_of-store-in_default
-unfolding claimed room_for
-invariant_of-store-in_default c = search rules
-
-pub returns-in-Dynamic : goal.returns-in-Dynamic
-unfolding claimed room_for
-returns-in-Dynamic c = search rules
-
-pub returns-in_default : goal.returns-in_default
-unfolding claimed room_for
-returns-in_default c = search rules
+pub returns-clause-table : goal.returns-clause-table
+unfolding claimed
+returns-clause-table c =
+    let s = c.args.store.now in
+    let ws = s.windows in
+    let j = c.window-j.result in
+    let w = c.extended.result in
+    let d = c.index-store-j.result in
+    let first = code_of c.args.space == 0 in
+    let e : j ≡ target (table_of s) c.args.kind (code_of c.args.space) = c.window-j.ensures ∙ ap (window c.args.kind) c.space_now.ensures in
+    let rooms = map-set_same (λ (w : Window). w.room) ws j w d c.extended.ensures.rest.1 in
+    let lows = changed-unless ws j w d (λ (w : Window). w.low) first (c.args.offset + c.args.size) c.extended.ensures.low in
+    let highs = changed-if ws j w d (λ (w : Window). w.high) first c.args.offset c.extended.ensures.high in
+    rw (sym e) (claimed-table s _ _ _ rooms _ _ lows highs)

@@ -1,18 +1,9 @@
--- Each turn writes one word more of the block, and none is refused.
-use Rattle.std.proofs.Common.{length, replicate, sym, refl, ap, arith}
-use Rattle.memory.proofs.Pasting.{pasted-none, length-pasted, pasted-replicate}
+-- The block is as many times the word as there are places.
+use Rattle.std.proofs.Common.{replicate, rules}
+use Rattle.std.proofs.lemmas.List.{length-replicate, get_or-replicate}
 use Rattle.memory.proofs.blocks.fill.Goals as goal
 
-pub loop-i-init : goal.loop-i-init
-loop-i-init g c = (sym (pasted-none (g.M.WordMemory.words c.args.memory.now) c.args.at), refl)
-
-pub returns-in_err-write : goal.returns-in_err-write
-returns-in_err-write g c =
-    let e = ap length c.loop-i.invariant.0 in
-    let f = length-pasted (g.M.WordMemory.words c.args.memory.now) c.args.at (replicate c.loop-i.i c.args.w) in
-    let z : ⊥ = omega (arith, c.in_err-write.ensures.after.0) in absurd z
-
-pub loop-i-preserved : goal.loop-i-preserved
-loop-i-preserved g c =
-    let more = pasted-replicate (g.M.WordMemory.words c.args.memory.now) c.args.at c.loop-i.i c.args.w in
-    let wrote = c.in_ok-write.ensures in (cc wrote.after.1, cc wrote.lender)
+pub returns-clause-after : goal.returns-clause-after
+returns-clause-after g c =
+    let n = length-replicate c.args.n c.args.w in
+    rw n at (c.put.ensures.after (replicate c.args.n c.args.w) n (λ i r l p. search (rules, get_or-replicate)))

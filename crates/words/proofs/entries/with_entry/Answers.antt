@@ -9,18 +9,12 @@ parts : (w a k v old scale range : ℕ) → scale ≡ scale_of a k → old ≡ e
     (old * scale ≤ w) × (w - old * scale + v % range * scale < 2 ^ 32)
 parts w a k v old scale range e f g l h = rw (e, f, g) (entry-part w a k, with-fits w a k (v % 2 ^ bits_of a) l h (mod_below v (2 ^ bits_of a) (pow_pos (bits_of a))))
 
-parts-of : (c : goal.After-entry_range) → (c.entry_of-old.result * c.entry_scale-scale.result ≤ c.args.word) ×
+parts_of : (c : goal.After-entry_range) → (c.entry_of-old.result * c.entry_scale-scale.result ≤ c.args.word) ×
     (c.args.word - c.entry_of-old.result * c.entry_scale-scale.result + c.args.value % c.entry_range.result * c.entry_scale-scale.result < 2 ^ 32)
-parts-of c = parts _ (c.args.access % 5) c.args.k c.args.value _ _ _ c.entry_scale-scale.ensures c.entry_of-old.ensures c.entry_range.ensures (omega arith) (omega arith)
-
-pub overflow_mul-result : goal.overflow_mul-result
-overflow_mul-result c = omega (arith, (parts-of c).0, (parts-of c).1)
-
-pub overflow_sub-result : goal.overflow_sub-result
-overflow_sub-result c = (parts-of c).0
+parts_of c = parts _ (c.args.access % 5) c.args.k c.args.value _ _ _ c.entry_scale-scale.ensures c.entry_of-old.ensures c.entry_range.ensures (omega arith) (omega arith)
 
 pub overflow_mul-result-2 : goal.overflow_mul-result-2
-overflow_mul-result-2 c = omega (arith, (parts-of c).0, (parts-of c).1)
+overflow_mul-result-2 c = omega (arith, parts_of c)
 
 pub overflow_add-result : goal.overflow_add-result
-overflow_add-result c = omega (arith, (parts-of c).0, (parts-of c).1)
+overflow_add-result c = omega (arith, parts_of c)

@@ -1,12 +1,16 @@
-use Rattle.std.proofs.Common.{sym, ◌∙◌, rules}
+use Rattle.std.proofs.Common.{rules}
 use Rattle.access.specs.Access.{space_done}
+use Rattle.spaces.specs.Spaces.{space_at}
 use Rattle.laws.proofs.Views.{code-back}
+use Rattle.heap.proofs.Named.{named-refused, named-granted}
 use Rattle.heap.proofs.state.Heap.change_space.Goals as goal
 
-pub returns-in_err-admit : goal.returns-in_err-admit
+pub returns-in_err-self : goal.returns-in_err-self
 unfolding space_done
-returns-in_err-admit g c = search rules
+returns-in_err-self g c = let e = named-refused c.args.self.now.store.foreign (space_at c.args.space) _ c.in_err-self.field-0.0 c.in_err-self.ensures in search rules
 
-pub returns-in-Some : goal.returns-in-Some
+pub returns : goal.returns
 unfolding space_done
-returns-in-Some g c = let e = code-back c.args.space c.in-Some.space (sym c.of_code-found.ensures ∙ c.in-Some.is) in search rules
+returns g c =
+    let e = named-granted c.args.self.now.store.foreign (space_at c.args.space) _ c.in_ok-self.field-0 c.in_ok-self.ensures in
+    let f = code-back c.args.space c.in_ok-self.field-0 e.1 in search rules

@@ -1,5 +1,4 @@
-use Rattle.std.proofs.Common.{sym}
 use Rattle.heap.proofs.state.Heap.note.Goals as goal
 
-pub returns-in-Err : goal.returns-in-Err
-returns-in-Err g c = record { same = sym c.in-Err.is; noted = λ ws. rw c.in-Err.is (c.remember.ensures ws) }
+pub returns-in-Err-clause-noted : goal.returns-in-Err-clause-noted
+returns-in-Err-clause-noted g c = λ ws. rw (c.in-Err.is, ← c.cause.ensures) (c.remember.ensures ws)

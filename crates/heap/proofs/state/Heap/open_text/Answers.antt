@@ -1,4 +1,4 @@
-use Rattle.std.proofs.Common.{length, refl}
+use Rattle.std.proofs.Common.{length}
 use Rattle.heap.specs.View.{machine}
 use Rattle.opening.proofs.Steps.{view-settled}
 use Rattle.opening.proofs.Promises.{text-promised}
@@ -6,9 +6,8 @@ use Rattle.heap.proofs.state.Heap.open_text.Goals as goal
 
 pub returns : goal.returns
 returns g c = record {
-  promised = rw c.note_fault.ensures.same (text-promised (length c.args.control.now) (length c.args.bindings.now) c.args.space c.args.text.now
-      (machine c.args.self.now (g.M.WordMemory.words c.args.memory.now)) _ c.run_text-r.result
-      (view-settled c.args.self.now.store c.args.self.now.allocation.space (g.M.WordMemory.words c.args.memory.now)) c.run_text-r.ensures.runs _ (c.note_fault.ensures.noted _));
-  stacks = (refl, refl);
-  lender = c.run_text-r.ensures.lender;
+  promised = rw c.note.ensures.same (text-promised (length c.args.loan.now.control.now) (length c.args.loan.now.bindings.now) c.args.space c.args.text.now
+      (machine c.args.self.now (g.M.WordMemory.words c.args.loan.now.memory)) _ c.run_text-r.result
+      (view-settled c.args.self.now.store c.args.self.now.allocation.space (g.M.WordMemory.words c.args.loan.now.memory)) c.run_text-r.ensures.runs _ (c.note.ensures.noted _));
+  lent = c.run_text-r.ensures.lent;
 }

@@ -1,19 +1,16 @@
-use Rattle.std.proofs.Common.{rules}
+use Rattle.std.proofs.Common.{◌∙◌, ap, sym, arith}
+use Rattle.store.specs.Windows.{holds}
+use Rattle.store.proofs.Laid.{count-windows, in-use-of, in-use-past}
 use Rattle.store.proofs.state.Store.in_use.Goals as goal
-use Rattle.store.specs.Checks.{in_use}
 
-pub returns-then-window-ge-WINDOWS : goal.returns-then-window-ge-WINDOWS
-unfolding in_use
-returns-then-window-ge-WINDOWS c = search rules
+pub returns-in-Some : goal.returns-in-Some
+returns-in-Some c =
+    let s = c.args.self.now in
+    let found = c.in-Some.ensures.lookup in
+    c.holds.ensures ∙ ap (λ w. holds w c.args.offset c.args.size) found.1
+    ∙ sym (in-use-of s c.args.window c.in-Some.w.now (omega (arith, found.3.0, count-windows s)) c.args.offset c.args.size)
 
-pub returns-then-offset-room : goal.returns-then-offset-room
-unfolding in_use
-returns-then-offset-room c = search rules
-
-pub returns-then-offset-size : goal.returns-then-offset-size
-unfolding in_use
-returns-then-offset-size c = search rules
-
-pub returns-else-offset-size : goal.returns-else-offset-size
-unfolding in_use
-returns-else-offset-size c = search rules
+pub returns-in-None : goal.returns-in-None
+returns-in-None c =
+    let s = c.args.self.now in
+    sym (in-use-past s c.args.window c.args.offset c.args.size (omega (arith, c.in-None.ensures.lookup.3, count-windows s)))
