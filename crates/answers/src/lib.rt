@@ -4,6 +4,7 @@
 ghost use Rattle.std.specs.Prelude.{◌≡◌, Some};
 ghost use Rattle.answers.specs.Numbers.{number_of, place_of};
 ghost use Rattle.answers.specs.Shown.{fault_shown, told_shown};
+ghost use Rattle.answers.specs.Telling.{told_of};
 ghost use Rattle.answers.specs.declared.Refusal.TheVariants.{Unknown, WrongKind, OutOfBounds, Short, NoForm as no_form};
 
 use kinds::{Kind, UnknownKind};
@@ -11,7 +12,7 @@ use memory::OutOfRange;
 use numerals::NoForm;
 use spaces::{Space, UnknownSpace};
 use std::fmt;
-use words::NoWord;
+use words::{Literal, NoWord};
 
 /// What a register holds.
 #[derive(Clone, Copy, PartialEq, Eq, Debug)]
@@ -37,6 +38,19 @@ impl fmt::Display for Told {
             Told::Character(code) => write!(f, "c{code}"),
             Told::Null => f.write_str("n"),
             Told::Object { kind, .. } => write!(f, "o{}", kind.shape().code),
+        }
+    }
+}
+
+/// What a register holds that is no object.
+impl From<Literal> for Told {
+    ghost from_gives = { λ literal r. r ≡ told_of literal };
+
+    fn from(literal: Literal) -> Told {
+        match literal {
+            Literal::Fixnum(value) => Told::Fixnum(value),
+            Literal::Character(code) => Told::Character(code),
+            Literal::Null => Told::Null,
         }
     }
 }

@@ -1,7 +1,7 @@
 // The cells and entries of opened objects.
 #![tactic(auto)]
 
-ghost use Rattle.std.specs.Prelude.{◌≡◌, ℕ, Bool};
+ghost use Rattle.std.specs.Prelude.{◌≡◌, ℕ, Bool, ◌==◌};
 ghost use Rattle.store.specs.View.{table_of};
 ghost use Rattle.cells.specs.Cells.{cell_place, entry_place, leads_on, believed, loaded, fits_cell, frozen_cell, saved};
 
@@ -9,10 +9,15 @@ use answers::{Place, Refusal};
 use kinds::{Class, entry_number};
 use memory::WordMemory;
 use objects::Opened;
-use store::{Store, is_dynamic};
+use store::{Space, Store, is_dynamic};
 
-/// The space code of read-only objects.
-pub const READ_ONLY: u32 = 3;
+// Functions and no methods, since `Opened` is another crate's type.
+/// The object lies in read-only space.
+pub fn is_read_only(object: Opened) -> bool
+    ensures { result ≡ (object.space == 3) }
+{
+    object.space == u32::from(Space::ReadOnly)
+}
 
 /// The place of cell `k` of a boxed object.
 fn cell_place(object: Opened, k: u32) -> usize
@@ -26,7 +31,7 @@ fn entry_place(object: Opened, k: u32) -> usize
     ensures { result ≡ entry_place object k }
 {
     let word = k / words::entries_per_word(object.access);
-    object.base as usize + object.kind.shape().heads + word as usize
+    cell_place(object, word)
 }
 
 /// A pointer that cell `k` may hold leads to an object in use, and out of read-only space to no dynamic one.
@@ -34,7 +39,7 @@ fn leads_on(store: &Store, object: Opened, w: u32, class: Class) -> bool
     ensures { result ≡ leads_on (table_of store.now) object w class }
 {
     match class {
-        Class::Pointer(_) => store.reaches(w) && !(object.space == READ_ONLY && is_dynamic(w)),
+        Class::Pointer(_) => store.reaches(w) && !(is_read_only(object) && is_dynamic(w)),
         _ => true,
     }
 }
@@ -80,6 +85,7 @@ pub fn load<M: WordMemory>(
 pub fn can_take(object: Opened, k: u32, w: u32) -> bool
     ensures { result ≡ fits_cell object k w }
 {
+    // A `match`, since the check finds no proof of `is_ok_and` by itself.
     match Class::try_from(w) {
         Err(_) => false,
         Ok(class) => object.kind.accepts(k as usize, class)
@@ -92,7 +98,7 @@ pub fn can_take(object: Opened, k: u32, w: u32) -> bool
 pub fn is_frozen(store: &Store, object: Opened) -> bool
     ensures { result ≡ frozen_cell (table_of store.now) object }
 {
-    object.space == READ_ONLY && (object.offset as usize) < store.frozen[object.kind.index()]
+    is_read_only(object) && (object.offset as usize) < store.frozen[object.kind.index()]
 }
 
 /// Cell or entry `k` becomes the word.

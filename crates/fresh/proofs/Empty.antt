@@ -30,7 +30,7 @@ module _ (ws : List Windows) (len : length ws ≡ 5) where
   fresh-room κ e l =
       let i = index_below κ in
       let n = length-ns in
-      let next = starts-next ns (window κ e) (omega (arith, i, n, l)) in omega (arith, next)
+      let next = starts-next 0 ns (window κ e) (omega (arith, i, n, l)) in omega (arith, next)
 
   fresh-length : (κ : Kind) (e : ℕ) → e < 4 → get_or ns (window κ e) 0 ≡ get_or (of_kind (get_or ws (index κ) no_windows)) e 0
   fresh-length κ e l = let i = index_below κ in get_or-lengths ws (index κ) e no_windows (omega arith) l

@@ -45,11 +45,19 @@ module _ (ws : List Window) (rooms : List ℕ) (h : LaidOut ws rooms 20) (n : le
   pub highs-laid : map (λ (w : Window). w.high) ws ≡ rooms
   highs-laid = map-is (λ (w : Window). w.high) rooms n (λ j l. h.high j no_window l)
 
-  pub starts-laid : map (λ (w : Window). w.start) ws ≡ take 20 (starts_from 0 rooms)
-  starts-laid =
-      let s = length-starts 0 rooms in
-      map-is (λ (w : Window). w.start) (take 20 (starts_from 0 rooms)) (let t = length-take 20 (starts_from 0 rooms) in omega (arith, s, n, t))
-      (λ j l.
-      let a = h.start j no_window l in
-      let b = get_or-take 20 (starts_from 0 rooms) j 0 l in
-      let e = starts-sum 0 rooms j 0 (omega (arith, l, n)) in omega (arith, a, b, e))
+  pub first-laid : get_or (map (λ (w : Window). w.start) ws) 0 0 ≡ 0
+  first-laid =
+      let a = get_or-map (λ (w : Window). w.start) ws 0 no_window 0 (omega (arith, h.long)) in
+      let b = h.start 0 no_window (omega arith) in a ∙ b
+
+  pub starts-laid : map (λ (w : Window). w.start) ws ≡ take 20 (starts_from (get_or (map (λ (w : Window). w.start) ws) 0 0) rooms)
+  starts-laid = rw first-laid from-first
+    where
+      from-first : map (λ (w : Window). w.start) ws ≡ take 20 (starts_from 0 rooms)
+      from-first =
+          let s = length-starts 0 rooms in
+          map-is (λ (w : Window). w.start) (take 20 (starts_from 0 rooms)) (let t = length-take 20 (starts_from 0 rooms) in omega (arith, s, n, t))
+          (λ j l.
+          let a = h.start j no_window l in
+          let b = get_or-take 20 (starts_from 0 rooms) j 0 l in
+          let e = starts-sum 0 rooms j 0 (omega (arith, l, n)) in omega (arith, a, b, e))

@@ -1,5 +1,5 @@
 -- The making of a store, case by case.
-use Rattle.std.proofs.Common.{◌≡◌, ℕ, ◌+◌, ◌<◌, ◌≤◌, Bool, true, false, cond, ◌&&◌, leb, List, length, replicate, None, Ok, Err, sum, Result, refl, ap, ◌∙◌, inl, inr, arith}
+use Rattle.std.proofs.Common.{◌≡◌, ℕ, ◌+◌, ◌<◌, ◌≤◌, Bool, true, false, cond, ◌&&◌, leb, List, length, get_or, replicate, None, Ok, Err, sum, Result, refl, ap, ◌∙◌, inl, inr, arith}
 use Rattle.std.proofs.lemmas.Bool.{cases_Bool, cond-true, cond-false, and_parts, leb-true}
 use Rattle.memory.proofs.Pasting.{length-pasted}
 use Rattle.answers.specs.declared.Refusal.{Refusal}
@@ -9,7 +9,7 @@ use Rattle.layout.specs.Machine.{Machine, windows, start}
 use Rattle.layout.specs.Fresh.{starts_from, fresh_machine}
 use Rattle.store.specs.declared.state.Store.{Store}
 use Rattle.store.specs.Checks.{admitted, long_enough}
-use Rattle.store.specs.View.{rooms_of, table_of, view}
+use Rattle.store.specs.View.{rooms_of, begins_of, table_of, view}
 use Rattle.promises.specs.Promise.{Depicts}
 use Rattle.fresh.specs.declared.windows.Windows.{Windows}
 use Rattle.fresh.specs.Windows.{lengths, windows_fit, empty_state}
@@ -45,7 +45,7 @@ module _ (ws : List Windows) (len : length ws ≡ 5) (s : Store) (new : (xs : Li
   -- The last window ends after all words.
   store-end : start (table_of s) windows ≡ sum (lengths ws)
   store-end =
-      let t : starts_from 0 (rooms_of s) ≡ starts_from 0 (lengths ws) = ap (λ (x : Machine). x.table.starts) (new words) in
+      let t : starts_from (get_or (begins_of s) 0 0) (rooms_of s) ≡ starts_from 0 (lengths ws) = ap (λ (x : Machine). x.table.starts) (new words) in
       let n = length-lengths ws in rw t (starts-end (lengths ws) windows (omega arith))
 
   -- It takes a call exactly if it was lent enough.

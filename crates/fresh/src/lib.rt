@@ -4,7 +4,6 @@
 ghost use Rattle.std.specs.Prelude.{◌≡◌, ℕ, ◌≤◌, true, List, length, IfOk};
 ghost use Rattle.std.specs.List.{AllByRecursion};
 ghost use Rattle.layout.specs.Fresh.{fresh_machine};
-ghost use Rattle.loan.specs.Lent.{GivenBack};
 ghost use Rattle.store.specs.View.{view};
 ghost use Rattle.promises.specs.Promise.{Depicts};
 ghost use Rattle.fresh.specs.Windows.{lengths, windows_fit, empty_state};
@@ -12,8 +11,8 @@ ghost use Rattle.fresh.specs.Made.{LaidOut, viewed, store_made};
 
 use answers::Refusal;
 use kinds::Kind;
-use loan::Loan;
 use memory::{WordMemory, fill};
+use stacks::StackLengths;
 use store::{REGISTERS, Store, WINDOWS, Window};
 
 mod windows;
@@ -32,6 +31,7 @@ fn lengths(windows: [Windows; Kind::COUNT]) -> [usize; WINDOWS]
     ensures { result ≡ lengths windows }
 {
     let mut rooms = [0; WINDOWS];
+    // By index, since after an adapter of `iter_mut` nothing is known of the elements.
     for (k, w) in windows.iter().enumerate() {
         rooms[4 * k..4 * k + 4].copy_from_slice(&w.rooms());
     }
@@ -51,6 +51,7 @@ fn lay_out(rooms: [usize; WINDOWS]) -> [Window; WINDOWS]
     };
     let mut windows = [empty; WINDOWS];
     let mut start = 0;
+    // By index, as in `lengths`.
     for (i, room) in rooms.iter().enumerate() {
         windows[i] = Window {
             start,
@@ -80,18 +81,19 @@ fn empty_store(windows: [Windows; Kind::COUNT]) -> Store
 /// Makes a store with these windows, in order of type code, and clears their words.
 pub fn make_store<M: WordMemory>(
     windows: [Windows; Kind::COUNT],
-    loan: &mut Loan<M>,
+    memory: &mut M,
+    stacks: StackLengths,
 ) -> Result<Store, Refusal>
-    ensures makes { (M.WordMemory.words loan.new.memory, viewed (M.WordMemory.words loan.new.memory) result)
-        ≡ store_made windows (length loan.old.control.now) (length loan.old.bindings.now) (M.WordMemory.words loan.old.memory) }
-    ensures empty { IfOk result (λ s. Depicts (view s 0 (M.WordMemory.words loan.new.memory)) (empty_state windows)) }
-    ensures lent { GivenBack M.WordMemory.lender loan.old loan.new }
+    ensures makes { (M.WordMemory.words memory.new, viewed (M.WordMemory.words memory.new) result)
+        ≡ store_made windows stacks.control stacks.bindings (M.WordMemory.words memory.old) }
+    ensures empty { IfOk result (λ s. Depicts (view s 0 (M.WordMemory.words memory.new)) (empty_state windows)) }
+    ensures lender { M.WordMemory.lender memory.new ≡ M.WordMemory.lender memory.old }
 {
     if !windows_fit(windows) {
         return Err(Refusal::OutOfBounds);
     }
     let store = empty_store(windows);
-    store.admit(true, loan)?;
-    fill(&mut loan.memory, 0, store.end(), 0)?;
+    store.admit(true, memory, stacks)?;
+    fill(memory, 0, store.end(), 0)?;
     Ok(store)
 }

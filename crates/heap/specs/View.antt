@@ -4,6 +4,8 @@ use Rattle.answers.specs.declared.Refusal.{Refusal}
 use Rattle.answers.specs.declared.Refusal.TheVariants.{Unknown}
 use Rattle.spaces.specs.declared.Space.{Space}
 use Rattle.graph.specs.Calls.{Call}
+use Rattle.std.specs.Borrow.{GName}
+use Rattle.loan.specs.Lent.{GivenBack}
 use Rattle.loan.specs.declared.Loan.{Loan}
 use Rattle.promises.specs.Promise.{short, Promised}
 use Rattle.layout.specs.Machine.{Machine}
@@ -21,11 +23,12 @@ admitted_space (Ok u) (Some s) = Ok s
 admitted_space (Ok u) None = Err Unknown
 admitted_space (Err e) o = Err e
 
--- What a call promises that found the heap h and was lent l, and left h' and l' and answered r: `call` takes whether the loan is short, and
--- `step` the lengths of the stacks.
-abbrev pub Performs : {M A : Type 0} → (M → List ℕ) → (Bool → Call A) → (ℕ → ℕ → Machine → Machine × Result A Refusal) → Heap → Loan M → Heap → Loan M → Result A Refusal → Type 0
-Performs words call step h l h' l' r =
-    Promised (call (short (machine h (words l.memory)) (length l.control.now) (length l.bindings.now))) (step (length l.control.now) (length l.bindings.now)) (machine h (words l.memory)) (machine h' (words l'.memory)) r
+-- What a call does that found the heap h and was lent l, and left h' and l' and answered r: what it promises, and that it gave back what it
+-- was lent. `call` takes whether the loan is short, and `step` the lengths of the stacks.
+pub record Performs {M A : Type 0} (words : M → List ℕ) (lender_of : M → GName) (call : Bool → Call A) (step : ℕ → ℕ → Machine → Machine × Result A Refusal) (h : Heap) (l : Loan M) (h' : Heap) (l' : Loan M) (r : Result A Refusal) : Type 0 where
+  pub promised :
+      Promised (call (short (machine h (words l.memory.now)) (length l.control.now) (length l.bindings.now))) (step (length l.control.now) (length l.bindings.now)) (machine h (words l.memory.now)) (machine h' (words l'.memory.now)) r
+  pub lent : GivenBack lender_of l l'
 
 -- A heap that was made, as a machine with these words, or the refusal.
 abbrev pub shown_by : List ℕ → Result Heap Refusal → Result Machine Refusal

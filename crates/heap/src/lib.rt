@@ -19,6 +19,7 @@ ghost use Rattle.heap.specs.View.{machine, admitted_space, shown_by, Performs};
 use answers::{Refusal, TextFault, Told};
 pub use fresh::Windows;
 use fresh::make_store;
+use kinds::Kind;
 use loan::Loan;
 use making::{make_list, make_string, make_symbol, make_vector, make_words};
 use memory::WordMemory;
@@ -52,16 +53,21 @@ impl Drop for SpaceGuard<'_> {
     }
 }
 
+// Each call has a name and a promise of its own, so the calls stand side by side: the inner function, and then `note`.
 impl Heap {
     /// Makes a heap with windows of these lengths, kind by kind in order of type code, in a memory of any contents. It clears the
     /// windows' words; registers hold null, and new objects go to dynamic space.
-    pub fn new<M: WordMemory>(windows: [Windows; 5], loan: &mut Loan<M>) -> Result<Heap, Refusal>
-        ensures makes { (M.WordMemory.words loan.new.memory, shown_by (M.WordMemory.words loan.new.memory) result)
-            ≡ store_made windows (length loan.old.control.now) (length loan.old.bindings.now) (M.WordMemory.words loan.old.memory) }
-        ensures empty { IfOk result (λ h. Depicts (machine h (M.WordMemory.words loan.new.memory)) (empty_state windows)) }
+    pub fn new<M: WordMemory>(
+        windows: [Windows; Kind::COUNT],
+        loan: &mut Loan<M>,
+    ) -> Result<Heap, Refusal>
+        ensures makes { (M.WordMemory.words loan.new.memory.now, shown_by (M.WordMemory.words loan.new.memory.now) result)
+            ≡ store_made windows (length loan.old.control.now) (length loan.old.bindings.now) (M.WordMemory.words loan.old.memory.now) }
+        ensures empty { IfOk result (λ h. Depicts (machine h (M.WordMemory.words loan.new.memory.now)) (empty_state windows)) }
         ensures lent { GivenBack M.WordMemory.lender loan.old loan.new }
     {
-        let store = make_store(windows, loan)?;
+        let stacks = loan.stack_lengths();
+        let store = make_store(windows, loan.memory, stacks)?;
         Ok(Heap {
             store,
             allocation: AllocationSpace {
@@ -97,10 +103,10 @@ impl Heap {
         to: u32,
         value: Literal,
     ) -> Result<(), Refusal>
-        ensures promised { Performs M.WordMemory.words (λ short. put_call short to value) (λ c b. put_done c b to value) self.old loan.old self.new loan.new result }
-        ensures lent { GivenBack M.WordMemory.lender loan.old loan.new }
+        ensures { Performs M.WordMemory.words M.WordMemory.lender (λ short. put_call short to value) (λ c b. put_done c b to value) self.old loan.old self.new loan.new result }
     {
-        let r = access::put(&mut self.store, loan, to, value);
+        let stacks = loan.stack_lengths();
+        let r = access::put(&mut self.store, loan.memory, stacks, to, value);
         self.note(r)
     }
 
@@ -112,12 +118,12 @@ impl Heap {
         car: u32,
         cdr: u32,
     ) -> Result<u64, Refusal>
-        ensures promised { Performs M.WordMemory.words (λ short. make_list short to car cdr) (λ c b. list_made c b to car cdr) self.old loan.old self.new loan.new result }
-        ensures lent { GivenBack M.WordMemory.lender loan.old loan.new }
+        ensures { Performs M.WordMemory.words M.WordMemory.lender (λ short. make_list short to car cdr) (λ c b. list_made c b to car cdr) self.old loan.old self.new loan.new result }
     {
+        let stacks = loan.stack_lengths();
         let space = self.allocation.space;
         let store = &mut self.store;
-        let r = make_list(store, loan, space, to, car, cdr);
+        let r = make_list(store, loan.memory, stacks, space, to, car, cdr);
         self.note(r)
     }
 
@@ -128,12 +134,12 @@ impl Heap {
         to: u32,
         name: u32,
     ) -> Result<u64, Refusal>
-        ensures promised { Performs M.WordMemory.words (λ short. make_symbol short to name) (λ c b. symbol_made c b to name) self.old loan.old self.new loan.new result }
-        ensures lent { GivenBack M.WordMemory.lender loan.old loan.new }
+        ensures { Performs M.WordMemory.words M.WordMemory.lender (λ short. make_symbol short to name) (λ c b. symbol_made c b to name) self.old loan.old self.new loan.new result }
     {
+        let stacks = loan.stack_lengths();
         let space = self.allocation.space;
         let store = &mut self.store;
-        let r = make_symbol(store, loan, space, to, name);
+        let r = make_symbol(store, loan.memory, stacks, space, to, name);
         self.note(r)
     }
 
@@ -145,12 +151,12 @@ impl Heap {
         count: u32,
         fill: u32,
     ) -> Result<u64, Refusal>
-        ensures promised { Performs M.WordMemory.words (λ short. make_vector short to count fill) (λ c b. vector_made c b to count fill) self.old loan.old self.new loan.new result }
-        ensures lent { GivenBack M.WordMemory.lender loan.old loan.new }
+        ensures { Performs M.WordMemory.words M.WordMemory.lender (λ short. make_vector short to count fill) (λ c b. vector_made c b to count fill) self.old loan.old self.new loan.new result }
     {
+        let stacks = loan.stack_lengths();
         let space = self.allocation.space;
         let store = &mut self.store;
-        let r = make_vector(store, loan, space, to, count, fill);
+        let r = make_vector(store, loan.memory, stacks, space, to, count, fill);
         self.note(r)
     }
 
@@ -161,12 +167,12 @@ impl Heap {
         to: u32,
         count: u32,
     ) -> Result<u64, Refusal>
-        ensures promised { Performs M.WordMemory.words (λ short. make_string short to count) (λ c b. string_made c b to count) self.old loan.old self.new loan.new result }
-        ensures lent { GivenBack M.WordMemory.lender loan.old loan.new }
+        ensures { Performs M.WordMemory.words M.WordMemory.lender (λ short. make_string short to count) (λ c b. string_made c b to count) self.old loan.old self.new loan.new result }
     {
+        let stacks = loan.stack_lengths();
         let space = self.allocation.space;
         let store = &mut self.store;
-        let r = make_string(store, loan, space, to, count);
+        let r = make_string(store, loan.memory, stacks, space, to, count);
         self.note(r)
     }
 
@@ -178,12 +184,12 @@ impl Heap {
         count: u32,
         access: u32,
     ) -> Result<u64, Refusal>
-        ensures promised { Performs M.WordMemory.words (λ short. make_words short to count access) (λ c b. words_made c b to count access) self.old loan.old self.new loan.new result }
-        ensures lent { GivenBack M.WordMemory.lender loan.old loan.new }
+        ensures { Performs M.WordMemory.words M.WordMemory.lender (λ short. make_words short to count access) (λ c b. words_made c b to count access) self.old loan.old self.new loan.new result }
     {
+        let stacks = loan.stack_lengths();
         let space = self.allocation.space;
         let store = &mut self.store;
-        let r = make_words(store, loan, space, to, count, access);
+        let r = make_words(store, loan.memory, stacks, space, to, count, access);
         self.note(r)
     }
 
@@ -195,10 +201,10 @@ impl Heap {
         from: u32,
         at: u32,
     ) -> Result<(), Refusal>
-        ensures promised { Performs M.WordMemory.words (λ short. read_call short to from at) (λ c b. read_done c b to from at) self.old loan.old self.new loan.new result }
-        ensures lent { GivenBack M.WordMemory.lender loan.old loan.new }
+        ensures { Performs M.WordMemory.words M.WordMemory.lender (λ short. read_call short to from at) (λ c b. read_done c b to from at) self.old loan.old self.new loan.new result }
     {
-        let r = access::read(&mut self.store, loan, to, from, at);
+        let stacks = loan.stack_lengths();
+        let r = access::read(&mut self.store, loan.memory, stacks, to, from, at);
         self.note(r)
     }
 
@@ -210,19 +216,19 @@ impl Heap {
         at: u32,
         value: u32,
     ) -> Result<(), Refusal>
-        ensures promised { Performs M.WordMemory.words (λ short. write_call short into at value) (λ c b. write_done c b into at value) self.old loan.old self.new loan.new result }
-        ensures lent { GivenBack M.WordMemory.lender loan.old loan.new }
+        ensures { Performs M.WordMemory.words M.WordMemory.lender (λ short. write_call short into at value) (λ c b. write_done c b into at value) self.old loan.old self.new loan.new result }
     {
-        let r = access::write(&self.store, loan, into, at, value);
+        let stacks = loan.stack_lengths();
+        let r = access::write(&self.store, loan.memory, stacks, into, at, value);
         self.note(r)
     }
 
     /// Tells what a register holds.
     pub fn tell<M: WordMemory>(&mut self, loan: &mut Loan<M>, of: u32) -> Result<Told, Refusal>
-        ensures promised { Performs M.WordMemory.words (λ short. tell_call short of) (λ c b. tell_done c b of) self.old loan.old self.new loan.new result }
-        ensures lent { GivenBack M.WordMemory.lender loan.old loan.new }
+        ensures { Performs M.WordMemory.words M.WordMemory.lender (λ short. tell_call short of) (λ c b. tell_done c b of) self.old loan.old self.new loan.new result }
     {
-        let r = access::tell(&self.store, loan, of);
+        let stacks = loan.stack_lengths();
+        let r = access::tell(&self.store, loan.memory, stacks, of);
         self.note(r)
     }
 
@@ -233,35 +239,36 @@ impl Heap {
         left: u32,
         right: u32,
     ) -> Result<bool, Refusal>
-        ensures promised { Performs M.WordMemory.words (λ short. same_call short left right) (λ c b. same_done c b left right) self.old loan.old self.new loan.new result }
-        ensures lent { GivenBack M.WordMemory.lender loan.old loan.new }
+        ensures { Performs M.WordMemory.words M.WordMemory.lender (λ short. same_call short left right) (λ c b. same_done c b left right) self.old loan.old self.new loan.new result }
     {
-        let r = access::same(&self.store, loan, left, right);
+        let stacks = loan.stack_lengths();
+        let r = access::same(&self.store, loan.memory, stacks, left, right);
         self.note(r)
     }
 
     /// Read-only objects that there are take no writes from here on.
     pub fn freeze<M: WordMemory>(&mut self, loan: &mut Loan<M>) -> Result<(), Refusal>
-        ensures promised { Performs M.WordMemory.words (λ short. freeze_call short) (λ c b. freeze_done c b) self.old loan.old self.new loan.new result }
-        ensures lent { GivenBack M.WordMemory.lender loan.old loan.new }
+        ensures { Performs M.WordMemory.words M.WordMemory.lender (λ short. freeze_call short) (λ c b. freeze_done c b) self.old loan.old self.new loan.new result }
     {
-        let r = access::freeze(&mut self.store, loan);
+        let stacks = loan.stack_lengths();
+        let r = access::freeze(&mut self.store, loan.memory, stacks);
         self.note(r)
     }
 
     /// The space that a call names, where the call is admitted.
     fn named_space<M: WordMemory>(&self, loan: &Loan<M>, space: u32) -> Result<Space, Refusal>
-        ensures { result ≡ admitted_space (admitted self.now.store.foreign (is_some (space_at space)) (long_enough (table_of self.now.store) (length (M.WordMemory.words loan.now.memory)) (length loan.now.control.now) (length loan.now.bindings.now))) (space_at space) }
+        ensures { result ≡ admitted_space (admitted self.now.store.foreign (is_some (space_at space)) (long_enough (table_of self.now.store) (length (M.WordMemory.words loan.now.memory.now)) (length loan.now.control.now) (length loan.now.bindings.now))) (space_at space) }
     {
         let named = Space::try_from(space);
-        self.store.admit(named.is_ok(), loan)?;
+        let stacks = loan.stack_lengths();
+        self.store.admit(named.is_ok(), loan.memory, stacks)?;
         Ok(named?)
     }
 
     /// New objects go to this space, where there is one.
     fn change_space<M: WordMemory>(&mut self, loan: &Loan<M>, space: u32) -> Result<(), Refusal>
-        ensures { (machine self.new (M.WordMemory.words loan.now.memory), result)
-            ≡ space_done (length loan.now.control.now) (length loan.now.bindings.now) space (machine self.old (M.WordMemory.words loan.now.memory)) }
+        ensures { (machine self.new (M.WordMemory.words loan.now.memory.now), result)
+            ≡ space_done (length loan.now.control.now) (length loan.now.bindings.now) space (machine self.old (M.WordMemory.words loan.now.memory.now)) }
     {
         self.allocation.space = self.named_space(loan, space)?;
         Ok(())
@@ -273,8 +280,7 @@ impl Heap {
         loan: &mut Loan<M>,
         space: u32,
     ) -> Result<(), Refusal>
-        ensures promised { Performs M.WordMemory.words (λ short. set_space short space) (λ c b. space_done c b space) self.old loan.old self.new loan.new result }
-        ensures lent { GivenBack M.WordMemory.lender loan.old loan.new }
+        ensures { Performs M.WordMemory.words M.WordMemory.lender (λ short. set_space short space) (λ c b. space_done c b space) self.old loan.old self.new loan.new result }
     {
         let r = self.change_space(loan, space);
         self.note(r)
@@ -288,7 +294,7 @@ impl Heap {
         text: &[u8],
     ) -> Result<u64, TextFault>
         ensures runs { TextRuns (length loan.old.control.now) (length loan.old.bindings.now) space text.now
-            (machine self.old (M.WordMemory.words loan.old.memory)) (machine self.new (M.WordMemory.words loan.new.memory)) result }
+            (machine self.old (M.WordMemory.words loan.old.memory.now)) (machine self.new (M.WordMemory.words loan.new.memory.now)) result }
         ensures lent { GivenBack M.WordMemory.lender loan.old loan.new }
     {
         let space = at_line(0, self.named_space(loan, space))?;
@@ -304,7 +310,14 @@ impl Heap {
             record: &mut self.allocation,
             former,
         };
-        run_lines(&mut self.store, loan, guard.record.space, text)
+        let stacks = loan.stack_lengths();
+        run_lines(
+            &mut self.store,
+            loan.memory,
+            stacks,
+            guard.record.space,
+            text,
+        )
     }
 
     /// Opens a part text with its objects going to a space, and answers the sum of its lines' counts. A refused line leaves the
@@ -316,7 +329,7 @@ impl Heap {
         text: &[u8],
     ) -> Result<u64, TextFault>
         ensures promised { TextPromised (length loan.old.control.now) (length loan.old.bindings.now) space text.now
-            (machine self.old (M.WordMemory.words loan.old.memory)) (machine self.new (M.WordMemory.words loan.new.memory)) result }
+            (machine self.old (M.WordMemory.words loan.old.memory.now)) (machine self.new (M.WordMemory.words loan.new.memory.now)) result }
         ensures lent { GivenBack M.WordMemory.lender loan.old loan.new }
     {
         let r = self.run_text(loan, space, text);

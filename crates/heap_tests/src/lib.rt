@@ -2,32 +2,20 @@
 #![tactic(auto)]
 
 mod refusals;
+#[cfg(test)]
+mod shared;
 
 #[cfg(test)]
 mod tests {
+    use crate::shared::{EMPTY, alone, lent};
     use answers::{Refusal, TextFault, Told};
     use heap::{Heap, Windows};
+    use kinds::Kind;
     use loan::Loan;
     use memory::{Halves, WordMemory, Words};
-    use spaces::Space;
     use std::process::Abort;
     use std::test::Fail;
     use words::Literal;
-
-    const NONE: Windows = Windows {
-        dynamic: 0,
-        fixed: 0,
-        read_only: 0,
-    };
-
-    // A memory lent with stacks that have no room.
-    fn lent<M>(memory: M) -> Loan<'static, M> {
-        Loan {
-            memory,
-            control: &mut [],
-            bindings: &mut [],
-        }
-    }
 
     // The number of a refusal, 0 where the call was granted.
     fn number<T: Drop>(r: Result<T, Refusal>) -> u32 {
@@ -37,10 +25,10 @@ mod tests {
         }
     }
 
-    fn told_space(r: Result<Told, Refusal>) -> Option<Space> {
+    fn told_space(r: Result<Told, Refusal>) -> u32 {
         match r {
-            Ok(Told::Object { space, .. }) => Some(space),
-            _ => None,
+            Ok(Told::Object { space, .. }) => u32::from(space),
+            _ => 99,
         }
     }
 
@@ -54,18 +42,15 @@ mod tests {
     #[test]
     fn three_lists_fit_six_words_and_a_fourth_is_refused(rt: HostRuntime) -> Result<(), Fail> {
         let mut words = [7u32; 12];
-        let mut loan = lent(Words(&mut words));
-        let windows = [
-            NONE,
-            NONE,
-            NONE,
-            NONE,
+        let mut memory = Words(&mut words);
+        let mut loan = lent(&mut memory);
+        let windows = alone(
+            Kind::List,
             Windows {
                 dynamic: 6,
-                fixed: 0,
-                read_only: 0,
+                ..EMPTY
             },
-        ];
+        );
         let mut heap = Heap::new(windows, &mut loan)?;
         heap.put(&mut loan, 0, Literal::Fixnum(7))?;
         assert!(rt; number(heap.list(&mut loan, 1, 0, 0)) == 0);
@@ -78,24 +63,21 @@ mod tests {
     #[test]
     fn a_refused_line_puts_the_dynamic_space_back(rt: HostRuntime) -> Result<(), Fail> {
         let mut halves = [0u16; 24];
-        let mut loan = lent(Halves(&mut halves));
-        let windows = [
-            NONE,
-            NONE,
-            NONE,
-            NONE,
+        let mut memory = Halves(&mut halves);
+        let mut loan = lent(&mut memory);
+        let windows = alone(
+            Kind::List,
             Windows {
                 dynamic: 6,
-                fixed: 0,
-                read_only: 0,
+                ..EMPTY
             },
-        ];
+        );
         let mut heap = Heap::new(windows, &mut loan)?;
         let text = b"op=put to=0 value=f7\nop=list to=1 car=0 cdr=0\n";
         let (line, refusal) = fault(heap.open_text(&mut loan, 2, text));
         assert!(rt; line == 2 && refusal == 8);
         assert!(rt; number(heap.list(&mut loan, 1, 0, 0)) == 0);
-        assert!(rt; told_space(heap.tell(&mut loan, 1)) == Some(Space::Dynamic));
+        assert!(rt; told_space(heap.tell(&mut loan, 1)) == 0);
         Ok(())
     }
 
@@ -104,21 +86,19 @@ mod tests {
         rt: HostRuntime,
     ) -> Result<(), Fail> {
         let mut words = [0u32; 12];
-        let windows = [
-            NONE,
-            NONE,
-            NONE,
-            NONE,
+        let windows = alone(
+            Kind::List,
             Windows {
                 dynamic: 6,
-                fixed: 0,
-                read_only: 0,
+                ..EMPTY
             },
-        ];
-        let mut loan = lent(Words(&mut words));
+        );
+        let mut memory = Words(&mut words);
+        let mut loan = lent(&mut memory);
         let mut heap = Heap::new(windows, &mut loan)?;
         let mut few = [0u32; 11];
-        let mut short = lent(Words(&mut few));
+        let mut short_memory = Words(&mut few);
+        let mut short = lent(&mut short_memory);
         assert!(rt; number(heap.read(&mut short, 16, 0, 0)) == 1);
         assert!(rt; number(heap.read(&mut short, 0, 0, 0)) == 15);
         assert!(rt; number(heap.read(&mut loan, 0, 0, 9)) == 2);
@@ -131,18 +111,15 @@ mod tests {
     #[test]
     fn a_foreign_header_is_found_and_remembered(rt: HostRuntime) -> Result<(), Fail> {
         let mut words = [0u32; 12];
-        let mut loan = lent(Words(&mut words));
-        let windows = [
-            NONE,
-            NONE,
+        let mut memory = Words(&mut words);
+        let mut loan = lent(&mut memory);
+        let windows = alone(
+            Kind::BVector,
             Windows {
                 dynamic: 6,
-                fixed: 0,
-                read_only: 0,
+                ..EMPTY
             },
-            NONE,
-            NONE,
-        ];
+        );
         let mut heap = Heap::new(windows, &mut loan)?;
         assert!(rt; number(heap.vector(&mut loan, 0, 2, 1)) == 0);
         loan.memory.write(3, 0x1000_0009)?;
@@ -155,18 +132,15 @@ mod tests {
     #[test]
     fn a_foreign_cell_is_found(rt: HostRuntime) -> Result<(), Fail> {
         let mut words = [0u32; 12];
-        let mut loan = lent(Words(&mut words));
-        let windows = [
-            NONE,
-            NONE,
-            NONE,
-            NONE,
+        let mut memory = Words(&mut words);
+        let mut loan = lent(&mut memory);
+        let windows = alone(
+            Kind::List,
             Windows {
                 dynamic: 6,
-                fixed: 0,
-                read_only: 0,
+                ..EMPTY
             },
-        ];
+        );
         let mut heap = Heap::new(windows, &mut loan)?;
         assert!(rt; number(heap.list(&mut loan, 0, 1, 1)) == 0);
         loan.memory.write(4, 0xB000_0000)?;
@@ -184,8 +158,9 @@ mod tests {
     // What reading cell 0 of a list answers, and then a put, once the host has written `word` over the cell.
     fn list_cell_becomes(rt: &impl Abort, word: u32) -> Result<(u32, u32), Fail> {
         let mut words = [0u32; 14];
-        let mut loan = lent(Words(&mut words));
-        let mut heap = Heap::new([NONE, NONE, NONE, NONE, SIX], &mut loan)?;
+        let mut memory = Words(&mut words);
+        let mut loan = lent(&mut memory);
+        let mut heap = Heap::new(alone(Kind::List, SIX), &mut loan)?;
         assert!(rt; number(heap.list(&mut loan, 0, 1, 1)) == 0);
         loan.memory.write(4, word)?;
         let read = number(heap.read(&mut loan, 1, 0, 0));
@@ -231,8 +206,9 @@ mod tests {
     #[test]
     fn a_dynamic_pointer_in_a_read_only_list_is_foreign(rt: HostRuntime) -> Result<(), Fail> {
         let mut words = [0u32; 14];
-        let mut loan = lent(Words(&mut words));
-        let mut heap = Heap::new([NONE, NONE, NONE, NONE, SIX], &mut loan)?;
+        let mut memory = Words(&mut words);
+        let mut loan = lent(&mut memory);
+        let mut heap = Heap::new(alone(Kind::List, SIX), &mut loan)?;
         assert!(rt; number(heap.list(&mut loan, 0, 1, 1)) == 0);
         heap.set_space(&mut loan, 3)?;
         assert!(rt; number(heap.list(&mut loan, 2, 0, 1)) == 7);
@@ -246,13 +222,14 @@ mod tests {
     #[test]
     fn a_frozen_list_takes_no_writes_and_a_later_one_does(rt: HostRuntime) -> Result<(), Fail> {
         let mut words = [0u32; 16];
-        let mut loan = lent(Words(&mut words));
+        let mut memory = Words(&mut words);
+        let mut loan = lent(&mut memory);
         let windows = Windows {
             dynamic: 6,
             fixed: 0,
             read_only: 4,
         };
-        let mut heap = Heap::new([NONE, NONE, NONE, NONE, windows], &mut loan)?;
+        let mut heap = Heap::new(alone(Kind::List, windows), &mut loan)?;
         heap.set_space(&mut loan, 3)?;
         assert!(rt; number(heap.list(&mut loan, 0, 1, 1)) == 0);
         heap.freeze(&mut loan)?;
@@ -266,15 +243,13 @@ mod tests {
     fn named<M: WordMemory>(rt: &impl Abort, loan: &mut Loan<M>) -> Result<Heap, Fail> {
         let strings = Windows {
             dynamic: 8,
-            fixed: 0,
-            read_only: 0,
+            ..EMPTY
         };
         let symbols = Windows {
             dynamic: 6,
-            fixed: 0,
-            read_only: 0,
+            ..EMPTY
         };
-        let mut heap = Heap::new([NONE, strings, NONE, symbols, NONE], loan)?;
+        let mut heap = Heap::new([EMPTY, strings, EMPTY, symbols, EMPTY], loan)?;
         assert!(rt; number(heap.string(loan, 0, 2)) == 0);
         assert!(rt; number(heap.symbol(loan, 1, 0)) == 0);
         Ok(heap)
@@ -283,7 +258,8 @@ mod tests {
     #[test]
     fn a_print_name_that_is_no_string_is_foreign(rt: HostRuntime) -> Result<(), Fail> {
         let mut words = [0u32; 28];
-        let mut loan = lent(Words(&mut words));
+        let mut memory = Words(&mut words);
+        let mut loan = lent(&mut memory);
         let mut heap = named(&rt, &mut loan)?;
         assert!(rt; number(heap.read(&mut loan, 2, 1, 0)) == 4);
         assert!(rt; number(heap.read(&mut loan, 2, 1, 3)) == 0);
@@ -295,7 +271,8 @@ mod tests {
     #[test]
     fn a_string_of_another_access_type_is_foreign(rt: HostRuntime) -> Result<(), Fail> {
         let mut words = [0u32; 28];
-        let mut loan = lent(Words(&mut words));
+        let mut memory = Words(&mut words);
+        let mut loan = lent(&mut memory);
         let mut heap = named(&rt, &mut loan)?;
         loan.memory.write(6, 0x2000_0002)?;
         assert!(rt; number(heap.tell(&mut loan, 0)) == 17);

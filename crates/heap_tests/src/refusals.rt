@@ -2,19 +2,15 @@
 
 #[cfg(test)]
 mod tests {
+    use crate::shared::{EMPTY, alone, lent};
     use answers::{Place, Refusal, TextFault};
     use heap::{Heap, Windows};
+    use kinds::Kind;
     use loan::Loan;
     use memory::{WordMemory, Words};
     use std::process::Abort;
     use std::test::Fail;
     use words::Literal;
-
-    const EMPTY: Windows = Windows {
-        dynamic: 0,
-        fixed: 0,
-        read_only: 0,
-    };
 
     // Of a kind 24 words: twice 8 dynamic ones, new objects going to the end of the first 8, and 8 read-only ones.
     const EIGHT: Windows = Windows {
@@ -25,15 +21,6 @@ mod tests {
 
     // A text with one byte too many.
     const LONG: [u8; 16_385] = [b'x'; 16_385];
-
-    // A memory lent with stacks that have no room.
-    fn lent<M>(memory: M) -> Loan<'static, M> {
-        Loan {
-            memory,
-            control: &mut [],
-            bindings: &mut [],
-        }
-    }
 
     // What a call answers: the number of its refusal, 0 where it is granted, and the word of memory that the refusal names.
     #[derive(Clone, Copy, PartialEq, Eq, Debug)]
@@ -123,7 +110,8 @@ mod tests {
     impl Bench {
         fn new(windows: [Windows; 5]) -> Result<Bench, Fail> {
             let mut words = [7; 2_050];
-            let mut loan = lent(Words(&mut words));
+            let mut memory = Words(&mut words);
+            let mut loan = lent(&mut memory);
             let heap = Heap::new(windows, &mut loan)?;
             Ok(Bench { heap, words })
         }
@@ -158,80 +146,95 @@ mod tests {
         }
 
         fn put(&mut self, to: u32, value: Literal) -> Answer {
-            let mut loan = lent(Words(&mut self.words));
+            let mut memory = Words(&mut self.words);
+            let mut loan = lent(&mut memory);
             Answer::of(self.heap.put(&mut loan, to, value))
         }
 
         fn list(&mut self, to: u32, car: u32, cdr: u32) -> Answer {
-            let mut loan = lent(Words(&mut self.words));
+            let mut memory = Words(&mut self.words);
+            let mut loan = lent(&mut memory);
             Answer::of(self.heap.list(&mut loan, to, car, cdr))
         }
 
         fn symbol(&mut self, to: u32, name: u32) -> Answer {
-            let mut loan = lent(Words(&mut self.words));
+            let mut memory = Words(&mut self.words);
+            let mut loan = lent(&mut memory);
             Answer::of(self.heap.symbol(&mut loan, to, name))
         }
 
         fn vector(&mut self, to: u32, count: u32, fill: u32) -> Answer {
-            let mut loan = lent(Words(&mut self.words));
+            let mut memory = Words(&mut self.words);
+            let mut loan = lent(&mut memory);
             Answer::of(self.heap.vector(&mut loan, to, count, fill))
         }
 
         fn string(&mut self, to: u32, count: u32) -> Answer {
-            let mut loan = lent(Words(&mut self.words));
+            let mut memory = Words(&mut self.words);
+            let mut loan = lent(&mut memory);
             Answer::of(self.heap.string(&mut loan, to, count))
         }
 
         fn words(&mut self, to: u32, count: u32, access: u32) -> Answer {
-            let mut loan = lent(Words(&mut self.words));
+            let mut memory = Words(&mut self.words);
+            let mut loan = lent(&mut memory);
             Answer::of(self.heap.words(&mut loan, to, count, access))
         }
 
         fn read(&mut self, to: u32, from: u32, at: u32) -> Answer {
-            let mut loan = lent(Words(&mut self.words));
+            let mut memory = Words(&mut self.words);
+            let mut loan = lent(&mut memory);
             Answer::of(self.heap.read(&mut loan, to, from, at))
         }
 
         fn write(&mut self, into: u32, at: u32, value: u32) -> Answer {
-            let mut loan = lent(Words(&mut self.words));
+            let mut memory = Words(&mut self.words);
+            let mut loan = lent(&mut memory);
             Answer::of(self.heap.write(&mut loan, into, at, value))
         }
 
         fn tell(&mut self, of: u32) -> Answer {
-            let mut loan = lent(Words(&mut self.words));
+            let mut memory = Words(&mut self.words);
+            let mut loan = lent(&mut memory);
             Answer::of(self.heap.tell(&mut loan, of))
         }
 
         fn same(&mut self, left: u32, right: u32) -> Answer {
-            let mut loan = lent(Words(&mut self.words));
+            let mut memory = Words(&mut self.words);
+            let mut loan = lent(&mut memory);
             Answer::of(self.heap.same(&mut loan, left, right))
         }
 
         fn set_space(&mut self, space: u32) -> Answer {
-            let mut loan = lent(Words(&mut self.words));
+            let mut memory = Words(&mut self.words);
+            let mut loan = lent(&mut memory);
             Answer::of(self.heap.set_space(&mut loan, space))
         }
 
         fn freeze(&mut self) -> Answer {
-            let mut loan = lent(Words(&mut self.words));
+            let mut memory = Words(&mut self.words);
+            let mut loan = lent(&mut memory);
             Answer::of(self.heap.freeze(&mut loan))
         }
 
         fn open_text(&mut self, space: u32, text: &[u8]) -> (u64, Answer) {
-            let mut loan = lent(Words(&mut self.words));
+            let mut memory = Words(&mut self.words);
+            let mut loan = lent(&mut memory);
             Answer::of_text(self.heap.open_text(&mut loan, space, text))
         }
 
         // The two calls below are lent a memory that is too short.
         fn read_short(&mut self, to: u32, from: u32, at: u32) -> Answer {
             let mut few = [0; 11];
-            let mut loan = lent(Words(&mut few));
+            let mut memory = Words(&mut few);
+            let mut loan = lent(&mut memory);
             Answer::of(self.heap.read(&mut loan, to, from, at))
         }
 
         fn open_text_short(&mut self, space: u32, text: &[u8]) -> (u64, Answer) {
             let mut few = [0; 11];
-            let mut loan = lent(Words(&mut few));
+            let mut memory = Words(&mut few);
+            let mut loan = lent(&mut memory);
             Answer::of_text(self.heap.open_text(&mut loan, space, text))
         }
     }
@@ -456,17 +459,13 @@ mod tests {
     fn a_count_over_the_limit_is_foreign_even_where_its_words_fit_the_header(
         rt: HostRuntime,
     ) -> Result<(), Fail> {
-        let mut bench = Bench::new([
+        let mut bench = Bench::new(alone(
+            Kind::UVector,
             Windows {
-                dynamic: 0,
                 fixed: 2_050,
-                read_only: 0,
+                ..EMPTY
             },
-            EMPTY,
-            EMPTY,
-            EMPTY,
-            EMPTY,
-        ])?;
+        ))?;
         bench.set_space(2).granted(&rt);
         bench.words(0, 65_534, 0).granted(&rt);
         bench.tell(0).granted(&rt);
@@ -651,18 +650,9 @@ mod tests {
     // What making a heap with this window answers in a memory of eleven words.
     fn made_in_eleven(fixed: u32) -> Answer {
         let mut few = [0; 11];
-        let mut loan = lent(Words(&mut few));
-        let windows = [
-            EMPTY,
-            EMPTY,
-            EMPTY,
-            EMPTY,
-            Windows {
-                dynamic: 0,
-                fixed,
-                read_only: 0,
-            },
-        ];
+        let mut memory = Words(&mut few);
+        let mut loan = lent(&mut memory);
+        let windows = alone(Kind::List, Windows { fixed, ..EMPTY });
         Answer::of(Heap::new(windows, &mut loan))
     }
 

@@ -10,22 +10,15 @@ impl TryFrom<u32> for Class {
     ghost try_from_gives = { λ w r. r ≡ ok_or (word_class w) (record {}) };
 
     fn try_from(w: u32) -> Result<Class, UnknownClass> {
-        let code = words::type_code(w);
-        if code == 1 {
-            return Ok(Class::Fixnum);
-        }
-        if w == words::TRAP {
-            return Ok(Class::Unset);
-        }
-        if w == words::NULL {
-            return Ok(Class::Null);
-        }
-        if w / 256 == 0x1_0000 {
-            return Ok(Class::Character);
-        }
-        match Kind::try_from(code) {
-            Ok(kind) if words::is_aligned(w) => Ok(Class::Pointer(kind)),
-            _ => Err(UnknownClass),
+        match w {
+            0x1000_0000..=0x1fff_ffff => Ok(Class::Fixnum),
+            words::TRAP => Ok(Class::Unset),
+            words::NULL => Ok(Class::Null),
+            0x0100_0000..=0x0100_00ff => Ok(Class::Character),
+            _ => match Kind::try_from(words::type_code(w)) {
+                Ok(kind) if words::is_aligned(w) => Ok(Class::Pointer(kind)),
+                _ => Err(UnknownClass),
+            },
         }
     }
 }

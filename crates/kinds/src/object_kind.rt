@@ -1,11 +1,12 @@
 // What a kind of object contributes, and the five kinds.
-ghost use Rattle.std.specs.Prelude.{◌≡◌};
+ghost use Rattle.std.specs.Prelude.{◌≡◌, cond, ◌==◌, nat_lt, nat_le, ◌&&◌, ◌%◌};
 ghost use Rattle.std.proofs.Common.{rules};
 ghost use Rattle.kinds.specs.declared.kind.Kind.{Kind};
 ghost use Rattle.kinds.specs.declared.kind.Kind.TheVariants.{UVector, String, BVector, Symbol, List};
 ghost use Rattle.kinds.specs.declared.object_kind.Descriptor.{Descriptor};
 ghost use Rattle.kinds.specs.declared.object_kind.TheConstants.{UVECTOR, STRING, BVECTOR, SYMBOL, LIST};
-ghost use Rattle.kinds.specs.Kinds.{Describes, shape_of, size_by, takes, lacks, accessible, entry_word};
+ghost use Rattle.words.specs.Words.{words_of, count_of, fixnum_word, character_word};
+ghost use Rattle.kinds.specs.Kinds.{Describes, takes};
 
 use super::kind::{Class, Kind};
 
@@ -42,6 +43,44 @@ pub struct Descriptor {
     pub entries: Entries,
 }
 
+impl Descriptor {
+    /// The words of an object that begins with this word.
+    pub fn size_of(self, first: u32) -> usize
+        ensures { result ≡ cond (self.shape.heads == 0) self.shape.least (words_of first) }
+    {
+        if self.shape.heads == 0 {
+            self.shape.least
+        } else {
+            words::header_words(first) as usize
+        }
+    }
+
+    /// This cell has no value when its object is made.
+    pub fn starts_unset(self, cell: usize) -> bool
+        ensures { result ≡ nat_lt cell self.unset }
+    {
+        cell < self.unset
+    }
+
+    /// Its objects may have this access type.
+    pub fn has_access(self, access: u32) -> bool
+        ensures { result ≡ (nat_le self.entries.least_access access && nat_le access self.entries.greatest_access) }
+    {
+        (self.entries.least_access..=self.entries.greatest_access).contains(&access)
+    }
+
+    /// The word of a packed entry, as a value.
+    pub fn entry_word(self, entry: u32) -> u32
+        ensures { result ≡ cond self.entries.characters (character_word (entry % 256)) (fixnum_word (count_of entry)) }
+    {
+        if self.entries.characters {
+            words::character_word(entry)
+        } else {
+            words::fixnum_word(entry)
+        }
+    }
+}
+
 /// A kind of object: its descriptor, and what its cells take.
 pub trait ObjectKind {
     /// The kind in numbers.
@@ -58,51 +97,6 @@ pub trait ObjectKind {
 
     // The descriptor is that of the kind.
     ghost described: { Describes kind DESCRIPTOR };
-
-    /// The constants of the kind.
-    final fn shape() -> Shape
-        ensures { result ≡ shape_of kind }
-    {
-        Self::DESCRIPTOR.shape
-    }
-
-    /// The words of an object that begins with this word.
-    final fn size_of(first: u32) -> usize
-        ensures { result ≡ size_by kind first }
-    {
-        let shape = Self::shape();
-        if shape.heads == 0 {
-            shape.least
-        } else {
-            words::header_words(first) as usize
-        }
-    }
-
-    /// This cell has no value when its object is made.
-    final fn starts_unset(cell: usize) -> bool
-        ensures { result ≡ lacks kind cell }
-    {
-        cell < Self::DESCRIPTOR.unset
-    }
-
-    /// Its objects may have this access type.
-    final fn has_access(access: u32) -> bool
-        ensures { result ≡ accessible kind access }
-    {
-        let entries = Self::DESCRIPTOR.entries;
-        (entries.least_access..=entries.greatest_access).contains(&access)
-    }
-
-    /// The word of a packed entry, as a value.
-    final fn entry_word(entry: u32) -> u32
-        ensures { result ≡ entry_word kind entry }
-    {
-        if Self::DESCRIPTOR.entries.characters {
-            words::character_word(entry)
-        } else {
-            words::fixnum_word(entry)
-        }
-    }
 }
 
 // The entries of a kind that has none, since its cells are boxed.

@@ -4,5 +4,5 @@ use Rattle.std.specs.Borrow.{GName}
 use Rattle.loan.specs.declared.Loan.{Loan}
 use Rattle.loan.specs.Lent.{GivenBack}
 
-pub given-back-again : {M : Type 0} (lender : M → GName) (a b c : Loan M) → GivenBack lender a b → GivenBack lender b c → GivenBack lender a c
-given-back-again lender a b c p q = (q.0 ∙ p.0, q.1 ∙ p.1, q.2 ∙ p.2)
+pub given-back-again : {M : Type 0} (lender_of : M → GName) (a b c : Loan M) → GivenBack lender_of a b → GivenBack lender_of b c → GivenBack lender_of a c
+given-back-again lender_of a b c p q = record { memory = q.memory ∙ p.memory; lender = q.lender ∙ p.lender; control = q.control ∙ p.control; bindings = q.bindings ∙ p.bindings }

@@ -3,6 +3,9 @@ use Rattle.std.specs.Prelude.{◌≡◌}
 use Rattle.std.specs.Borrow.{GName}
 use Rattle.loan.specs.declared.Loan.{Loan}
 
--- A call gives back the memory and the stacks that it was lent, with each entry of the stacks as it was.
-abbrev pub GivenBack : {M : Type 0} → (M → GName) → Loan M → Loan M → Type 0
-GivenBack lender a b = (lender b.memory ≡ lender a.memory) × (b.control ≡ a.control) × (b.bindings ≡ a.bindings)
+-- A call gives back the memory, over the slice that it borrowed, and the stacks, each entry as it was.
+pub record GivenBack {M : Type 0} (lender_of : M → GName) (a b : Loan M) : Type 0 where
+  pub memory : b.memory.ghost_name ≡ a.memory.ghost_name
+  pub lender : lender_of b.memory.now ≡ lender_of a.memory.now
+  pub control : b.control ≡ a.control
+  pub bindings : b.bindings ≡ a.bindings

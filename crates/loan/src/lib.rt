@@ -1,25 +1,26 @@
 // What a caller lends to each call: a memory and the two stacks.
 #![tactic(auto)]
 
-ghost use Rattle.std.specs.Prelude.{◌≡◌, ℕ, ◌&&◌, length, nat_le};
-ghost use Rattle.stacks.specs.Limits.{stacks_fit};
+ghost use Rattle.std.specs.Prelude.{◌≡◌, length};
 
-use memory::WordMemory;
-use stacks::{Binding, stacks_fit};
+use stacks::{Binding, StackLengths};
 
 /// A memory and two stacks, lent to calls.
 #[derive(Drop)]
 pub struct Loan<'a, M> {
-    pub memory: M,
+    pub memory: &'a mut M,
     pub control: &'a mut [u32],
     pub bindings: &'a mut [Binding],
 }
 
-impl<M: WordMemory> Loan<'_, M> {
-    /// The memory has so many words, and neither stack is over its limit.
-    pub fn has(&self, words: usize) -> bool
-        ensures { result ≡ (nat_le words (length (M.WordMemory.words self.now.memory)) && stacks_fit (length self.now.control.now) (length self.now.bindings.now)) }
+impl<M> Loan<'_, M> {
+    /// How long the stacks are.
+    pub fn stack_lengths(&self) -> StackLengths
+        ensures { (result.control ≡ length self.now.control.now) × (result.bindings ≡ length self.now.bindings.now) }
     {
-        words <= self.memory.len() && stacks_fit(self.control, self.bindings)
+        StackLengths {
+            control: self.control.len(),
+            bindings: self.bindings.len(),
+        }
     }
 }

@@ -1,5 +1,5 @@
 -- Room that was found for a new object.
-use Rattle.std.proofs.Common.{◌≡◌, ℕ, ◌+◌, ◌-◌, ◌<◌, ◌≤◌, List, replicate, Bool, true, false, cond, ltb, eqb, Ok, Err, Result, refl, arith}
+use Rattle.std.proofs.Common.{◌≡◌, ℕ, ◌+◌, ◌-◌, ◌<◌, ◌≤◌, List, get_or, replicate, Bool, true, false, cond, ltb, eqb, Ok, Err, Result, refl, arith}
 use Rattle.std.proofs.lemmas.Bool.{ltb-false}
 use Rattle.kinds.specs.declared.kind.Kind.{Kind}
 use Rattle.answers.specs.declared.Refusal.{Refusal}
@@ -8,7 +8,7 @@ use Rattle.spaces.specs.declared.Space.{Space}
 use Rattle.spaces.specs.declared.Space.TheVariants.{Dynamic, Static, ReadOnly}
 use Rattle.store.specs.declared.state.Store.{Store}
 use Rattle.spaces.specs.Spaces.{code_of}
-use Rattle.store.specs.View.{table_of, rooms_of}
+use Rattle.store.specs.View.{table_of, begins_of, rooms_of}
 use Rattle.layout.specs.Fresh.{starts_from}
 use Rattle.layout.specs.Machine.{Table, low, high, now_space, with_cursors}
 use Rattle.layout.proofs.Windows.{now_space-below, window-below}
@@ -35,6 +35,6 @@ place-below s κ space j e = rw e (window-below κ (now_space s.newspace (code_o
     code-below ReadOnly = omega arith
 
 -- A table with other cursors.
-pub claimed-table : (s : Store) (rooms lows highs : List ℕ) → rooms ≡ rooms_of s → (ls hs : List ℕ) → lows ≡ ls → highs ≡ hs →
-    record { starts = starts_from 0 rooms; lows = lows; highs = highs; froms = replicate 20 0; tos = replicate 20 0; frozen = s.frozen; held = replicate 5 0; now = s.newspace } ≡ with_cursors (table_of s) ls hs (replicate 20 0)
-claimed-table s rooms lows highs a ls hs b c = rw (a, b, c) refl
+pub claimed-table : (s : Store) (begins rooms lows highs : List ℕ) → begins ≡ begins_of s → rooms ≡ rooms_of s → (ls hs : List ℕ) → lows ≡ ls → highs ≡ hs →
+    record { starts = starts_from (get_or begins 0 0) rooms; lows = lows; highs = highs; froms = replicate 20 0; tos = replicate 20 0; frozen = s.frozen; held = replicate 5 0; now = s.newspace } ≡ with_cursors (table_of s) ls hs (replicate 20 0)
+claimed-table s begins rooms lows highs z a ls hs b c = rw (z, a, b, c) refl

@@ -2,25 +2,22 @@
 ghost use Rattle.std.specs.Prelude.{◌≡◌, ℕ, ◌≤◌, length};
 ghost use Rattle.spaces.specs.Spaces.{code_of};
 ghost use Rattle.store.specs.View.{view};
-ghost use Rattle.loan.specs.Lent.{GivenBack};
 ghost use Rattle.making.specs.Makings.{string_word, list_made, symbol_made, vector_made, packed_made, string_made, words_made};
 
 use super::make;
 use super::object::NewObject;
 use answers::Refusal;
 use kinds::{Class, Kind};
-use loan::Loan;
 use memory::WordMemory;
 use objects::MAX_COUNT;
-use store::{Space, Store, is_dynamic};
+use stacks::StackLengths;
+use store::{LAST, Space, Store, is_dynamic};
 use words::{NULL, TRAP};
 
-/// The last register.
-const LAST: u32 = 15;
-
-/// The last access type, and that of strings.
+/// The last access type.
 const LAST_ACCESS: u32 = 4;
 
+/// The access type of strings.
 const STRING_ACCESS: u32 = 3;
 
 /// The word points to a string.
@@ -31,21 +28,23 @@ fn is_string(w: u32) -> bool
     Class::try_from(w) == Ok(Class::Pointer(Kind::String))
 }
 
+// The makings stand side by side, since each has refusals and first words of its own; what they share is in `admit` and `make`.
 /// Makes a list of what two registers hold.
 #[tactic(auto, unfolding(crate::specs::Makings::list_made))]
 pub fn make_list<M: WordMemory>(
     store: &mut Store,
-    loan: &mut Loan<M>,
+    memory: &mut M,
+    stacks: StackLengths,
     space: Space,
     to: u32,
     car: u32,
     cdr: u32,
 ) -> Result<u64, Refusal>
-    ensures makes { (view store.new (code_of space) (M.WordMemory.words loan.new.memory), result)
-        ≡ list_made (length loan.old.control.now) (length loan.old.bindings.now) to car cdr (view store.old (code_of space) (M.WordMemory.words loan.old.memory)) }
-    ensures lent { GivenBack M.WordMemory.lender loan.old loan.new }
+    ensures makes { (view store.new (code_of space) (M.WordMemory.words memory.new), result)
+        ≡ list_made stacks.control stacks.bindings to car cdr (view store.old (code_of space) (M.WordMemory.words memory.old)) }
+    ensures lender { M.WordMemory.lender memory.new ≡ M.WordMemory.lender memory.old }
 {
-    store.admit(to <= LAST && car <= LAST && cdr <= LAST, loan)?;
+    store.admit(to <= LAST && car <= LAST && cdr <= LAST, memory, stacks)?;
     let head = [store.registers[car as usize], store.registers[cdr as usize]];
     if space == Space::ReadOnly && (is_dynamic(head[0]) || is_dynamic(head[1])) {
         return Err(Refusal::DynamicInReadOnly);
@@ -57,23 +56,24 @@ pub fn make_list<M: WordMemory>(
         rest: 0,
         fill: 0,
     };
-    make(store, &mut loan.memory, &object, to as usize)
+    make(store, memory, &object, to as usize)
 }
 
 /// Makes a symbol whose print name is the string in a register.
 #[tactic(auto, unfolding(crate::specs::Makings::symbol_made))]
 pub fn make_symbol<M: WordMemory>(
     store: &mut Store,
-    loan: &mut Loan<M>,
+    memory: &mut M,
+    stacks: StackLengths,
     space: Space,
     to: u32,
     name: u32,
 ) -> Result<u64, Refusal>
-    ensures makes { (view store.new (code_of space) (M.WordMemory.words loan.new.memory), result)
-        ≡ symbol_made (length loan.old.control.now) (length loan.old.bindings.now) to name (view store.old (code_of space) (M.WordMemory.words loan.old.memory)) }
-    ensures lent { GivenBack M.WordMemory.lender loan.old loan.new }
+    ensures makes { (view store.new (code_of space) (M.WordMemory.words memory.new), result)
+        ≡ symbol_made stacks.control stacks.bindings to name (view store.old (code_of space) (M.WordMemory.words memory.old)) }
+    ensures lender { M.WordMemory.lender memory.new ≡ M.WordMemory.lender memory.old }
 {
-    store.admit(to <= LAST && name <= LAST, loan)?;
+    store.admit(to <= LAST && name <= LAST, memory, stacks)?;
     let word = store.registers[name as usize];
     if !is_string(word) {
         return Err(Refusal::WrongKind);
@@ -89,24 +89,25 @@ pub fn make_symbol<M: WordMemory>(
         rest: 0,
         fill: 0,
     };
-    make(store, &mut loan.memory, &object, to as usize)
+    make(store, memory, &object, to as usize)
 }
 
 /// Makes a vector of so many entries, each what a register holds.
 #[tactic(auto, unfolding(crate::specs::Makings::vector_made))]
 pub fn make_vector<M: WordMemory>(
     store: &mut Store,
-    loan: &mut Loan<M>,
+    memory: &mut M,
+    stacks: StackLengths,
     space: Space,
     to: u32,
     count: u32,
     fill: u32,
 ) -> Result<u64, Refusal>
-    ensures makes { (view store.new (code_of space) (M.WordMemory.words loan.new.memory), result)
-        ≡ vector_made (length loan.old.control.now) (length loan.old.bindings.now) to count fill (view store.old (code_of space) (M.WordMemory.words loan.old.memory)) }
-    ensures lent { GivenBack M.WordMemory.lender loan.old loan.new }
+    ensures makes { (view store.new (code_of space) (M.WordMemory.words memory.new), result)
+        ≡ vector_made stacks.control stacks.bindings to count fill (view store.old (code_of space) (M.WordMemory.words memory.old)) }
+    ensures lender { M.WordMemory.lender memory.new ≡ M.WordMemory.lender memory.old }
 {
-    store.admit(to <= LAST && fill <= LAST, loan)?;
+    store.admit(to <= LAST && fill <= LAST, memory, stacks)?;
     if count > MAX_COUNT {
         return Err(Refusal::OutOfBounds);
     }
@@ -122,7 +123,7 @@ pub fn make_vector<M: WordMemory>(
         rest: count as usize,
         fill: word,
     };
-    make(store, &mut loan.memory, &object, to as usize)
+    make(store, memory, &object, to as usize)
 }
 
 /// An unboxed object with so many entries, all 0.
@@ -163,49 +164,35 @@ fn make_packed<M: WordMemory>(
 #[tactic(auto, unfolding(crate::specs::Makings::string_made))]
 pub fn make_string<M: WordMemory>(
     store: &mut Store,
-    loan: &mut Loan<M>,
+    memory: &mut M,
+    stacks: StackLengths,
     space: Space,
     to: u32,
     count: u32,
 ) -> Result<u64, Refusal>
-    ensures makes { (view store.new (code_of space) (M.WordMemory.words loan.new.memory), result)
-        ≡ string_made (length loan.old.control.now) (length loan.old.bindings.now) to count (view store.old (code_of space) (M.WordMemory.words loan.old.memory)) }
-    ensures lent { GivenBack M.WordMemory.lender loan.old loan.new }
+    ensures makes { (view store.new (code_of space) (M.WordMemory.words memory.new), result)
+        ≡ string_made stacks.control stacks.bindings to count (view store.old (code_of space) (M.WordMemory.words memory.old)) }
+    ensures lender { M.WordMemory.lender memory.new ≡ M.WordMemory.lender memory.old }
 {
-    store.admit(to <= LAST, loan)?;
-    make_packed(
-        store,
-        &mut loan.memory,
-        Kind::String,
-        space,
-        STRING_ACCESS,
-        count,
-        to,
-    )
+    store.admit(to <= LAST, memory, stacks)?;
+    make_packed(store, memory, Kind::String, space, STRING_ACCESS, count, to)
 }
 
 /// Makes an unboxed vector of so many entries of an access type, all 0.
 #[tactic(auto, unfolding(crate::specs::Makings::words_made))]
 pub fn make_words<M: WordMemory>(
     store: &mut Store,
-    loan: &mut Loan<M>,
+    memory: &mut M,
+    stacks: StackLengths,
     space: Space,
     to: u32,
     count: u32,
     access: u32,
 ) -> Result<u64, Refusal>
-    ensures makes { (view store.new (code_of space) (M.WordMemory.words loan.new.memory), result)
-        ≡ words_made (length loan.old.control.now) (length loan.old.bindings.now) to count access (view store.old (code_of space) (M.WordMemory.words loan.old.memory)) }
-    ensures lent { GivenBack M.WordMemory.lender loan.old loan.new }
+    ensures makes { (view store.new (code_of space) (M.WordMemory.words memory.new), result)
+        ≡ words_made stacks.control stacks.bindings to count access (view store.old (code_of space) (M.WordMemory.words memory.old)) }
+    ensures lender { M.WordMemory.lender memory.new ≡ M.WordMemory.lender memory.old }
 {
-    store.admit(to <= LAST && access <= LAST_ACCESS, loan)?;
-    make_packed(
-        store,
-        &mut loan.memory,
-        Kind::UVector,
-        space,
-        access,
-        count,
-        to,
-    )
+    store.admit(to <= LAST && access <= LAST_ACCESS, memory, stacks)?;
+    make_packed(store, memory, Kind::UVector, space, access, count, to)
 }

@@ -1,7 +1,7 @@
 // New objects: their words written, and their window's cursor moved past them.
 #![tactic(auto)]
 
-ghost use Rattle.std.specs.Prelude.{◌≡◌, ℕ, ◌+◌, ◌<◌, ◌≤◌, Bool, cond, Ok, ◌==◌, nat_le};
+ghost use Rattle.std.specs.Prelude.{◌≡◌, ℕ, ◌+◌, ◌<◌, ◌≤◌, Bool, cond, length, Ok, ◌==◌, nat_le};
 ghost use Rattle.spaces.specs.Spaces.{code_of};
 ghost use Rattle.store.specs.View.{table_of, view};
 ghost use Rattle.making.specs.Make.{emplaced, room_for, claimed, made};
@@ -38,16 +38,17 @@ fn emplace<M: WordMemory>(memory: &mut M, at: usize, object: &NewObject) -> Resu
     Ok(())
 }
 
-/// Where in its window a new object of this many words goes.
+/// Where in its window a new object goes.
 #[tactic(auto, unfolding(crate::specs::Make::room_for))]
-fn room_for(store: &Store, kind: Kind, space: Space, size: usize) -> Result<u32, Refusal>
-    ensures { result ≡ room_for (table_of store.now) kind (code_of space) size }
+fn room_for(store: &Store, object: &NewObject) -> Result<u32, Refusal>
+    ensures { result ≡ room_for (table_of store.now) object.now.kind (code_of object.now.space) (length (words_of object.now)) }
 {
-    let w = &store.windows[window(kind, store.space_now(space))];
+    let w = &store.windows[window(object.kind, store.space_now(object.space))];
+    let size = object.size();
     if w.high - w.low < size {
         return Err(Refusal::NoRoom);
     }
-    Ok(match space {
+    Ok(match object.space {
         Space::Dynamic => (w.high - size) as u32,
         _ => w.low as u32,
     })
@@ -83,14 +84,19 @@ fn extended(w: Window, space: Space, offset: usize, size: usize) -> Window
 }
 
 /// The words of a new object are in use.
-fn claim(store: &mut Store, kind: Kind, space: Space, offset: u32, size: usize)
-    requires { room_for (table_of store.old) kind (code_of space) size ≡ Ok offset }
-    ensures table { table_of store.new ≡ claimed kind (code_of space) offset size (table_of store.old) }
+fn claim(store: &mut Store, object: &NewObject, offset: u32)
+    requires { room_for (table_of store.old) object.now.kind (code_of object.now.space) (length (words_of object.now)) ≡ Ok offset }
+    ensures table { table_of store.new ≡ claimed object.now.kind (code_of object.now.space) offset (length (words_of object.now)) (table_of store.old) }
     ensures registers { store.new.registers ≡ store.old.registers }
     ensures foreign { store.new.foreign ≡ store.old.foreign }
 {
-    let j = window(kind, store.space_now(space));
-    store.windows[j] = extended(store.windows[j], space, offset as usize, size);
+    let j = window(object.kind, store.space_now(object.space));
+    store.windows[j] = extended(
+        store.windows[j],
+        object.space,
+        offset as usize,
+        object.size(),
+    );
 }
 
 /// Makes an object, and points a register to it.
@@ -105,14 +111,11 @@ fn make<M: WordMemory>(
         ≡ made object.now.kind (code_of object.now.space) (words_of object.now) to (view store.old (code_of object.now.space) (M.WordMemory.words memory.old)) }
     ensures lender { M.WordMemory.lender memory.new ≡ M.WordMemory.lender memory.old }
 {
-    let kind = object.kind;
-    let space = object.space;
-    let size = object.size();
-    let offset = room_for(store, kind, space, size)?;
-    let code = store.space_now(space);
-    let at = store.windows[window(kind, code)].start + offset as usize;
+    let offset = room_for(store, object)?;
+    let code = store.space_now(object.space);
+    let at = store.windows[window(object.kind, code)].start + offset as usize;
     emplace(memory, at, object)?;
-    claim(store, kind, space, offset, size);
-    store.registers[to] = words::pointer_word(kind.shape().code, code, offset);
+    claim(store, object, offset);
+    store.registers[to] = words::pointer_word(object.kind.shape().code, code, offset);
     Ok(0)
 }

@@ -19,6 +19,7 @@ fn put<M: WordMemory, F: Fn(usize) -> u32>(
     if n > len || at > len - n {
         return Err(OutOfRange);
     }
+    // By index, since a memory has no slice to go over.
     for i in 0..n {
         memory.write(at + i, word(i))?;
     }

@@ -40,25 +40,6 @@ pub trait WordMemory {
         ensures lender { lender self.new ≡ lender self.old };
 }
 
-// A memory that is lent is one too.
-impl<M: WordMemory> WordMemory for &mut M {
-    ghost words = { λ m. M.words m.now };
-
-    ghost lender = { λ m. M.lender m.now };
-
-    fn len(&self) -> usize {
-        (**self).len()
-    }
-
-    fn read(&self, i: usize) -> Result<u32, OutOfRange> {
-        (**self).read(i)
-    }
-
-    fn write(&mut self, i: usize, w: u32) -> Result<(), OutOfRange> {
-        (**self).write(i, w)
-    }
-}
-
 /// The worked figures hold of the formats and of a memory of halves.
 pub fn figures_hold()
     ensures { PlacedFigures }

@@ -21,6 +21,7 @@ pub fn number(text: &[u8]) -> Result<u32, NoForm>
     if let [b'0', _, ..] = text {
         return Err(NoForm);
     }
+    // Digit by digit, since std's `parse` takes a plus sign and leading zeros.
     let mut n = 0;
     for b in text {
         if !b.is_ascii_digit() {

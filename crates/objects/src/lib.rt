@@ -74,6 +74,7 @@ fn measure<M: WordMemory>(
     Ok((cells, words::access_type(second)))
 }
 
+// Kind, space and offset are read off the word where they are wanted: each is one shift, and a struct of them would be read as often.
 /// The place that a word of this kind points to.
 #[tactic(auto, unfolding(crate::specs::Open::located))]
 fn locate(store: &Store, kind: Kind, w: u32) -> u32

@@ -5,6 +5,7 @@ use kinds::Kind;
 #[derive(Clone, Copy)]
 pub struct Opened {
     pub kind: Kind,
+    // A number and no enum: it is one of the four space codes, by which the windows of a kind are counted.
     pub space: u32,
     /// Words from its window's start.
     pub offset: u32,
@@ -12,5 +13,6 @@ pub struct Opened {
     pub base: u32,
     /// How many cells or entries it has.
     pub cells: u32,
+    // A number and no enum: sizes and shifts are computed from it.
     pub access: u32,
 }

@@ -21,6 +21,7 @@ pub enum Op {
     Write,
 }
 
+// A list that is searched, so that each name stands once.
 const OPS: [Op; 8] = [
     Op::Put,
     Op::List,
@@ -33,6 +34,7 @@ const OPS: [Op; 8] = [
 ];
 
 impl Op {
+    // Bytes and no `Display`: a name is compared with the bytes of a text.
     /// The name that the field `op` has for it.
     pub fn name(self) -> &'static [u8]
         ensures { result.now ≡ name_of self }

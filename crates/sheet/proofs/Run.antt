@@ -68,7 +68,7 @@ sheet-still text m m' q k d e p y = go (short m 0 0) (ltb text_limit (length tex
 
 -- stacks without room stay so
 pub unstacked-kept : {M : Type 0} (lender : M → GName) (a b : Loan M) → GivenBack lender a b → Unstacked a → Unstacked b
-unstacked-kept lender a b k u = (ap (λ x. length x.now) k.1 ∙ u.0, ap (λ x. length x.now) k.2 ∙ u.1)
+unstacked-kept lender a b k u = (ap (λ x. length x.now) k.control ∙ u.0, ap (λ x. length x.now) k.bindings ∙ u.1)
 
 -- the heap of a sheet is always made
 pub sheet-heap : (ws ws' : List ℕ) (r : Result Heap Refusal) → length ws ≡ 5120 → (ws', shown_by ws' r) ≡ store_made sheet_windows 0 0 ws → IfOk r (λ h. Depicts (machine h ws') (empty_state sheet_windows)) →

@@ -10,28 +10,31 @@ ghost use Rattle.fresh.specs.Windows.{empty_state};
 
 use answers::{TextFault, Told};
 use heap::{Heap, Windows};
+use kinds::Kind;
 use listing::{fault_line, listing_of};
 use loan::Loan;
 use memory::{WordMemory, Words};
 use opening::at_line;
 use std::alloc::{AllocError, Global};
+use store::REGISTERS;
 
 /// What a register of a heap in order holds.
 fn told<M: WordMemory>(heap: &mut Heap, loan: &mut Loan<M>, register: u32) -> Told
-    requires { (register < 16) × Unstacked loan.old × ((s : State) × Still (machine heap.old (M.WordMemory.words loan.old.memory)) s) }
-    ensures told { (s : State) → Still (machine heap.old (M.WordMemory.words loan.old.memory)) s →
-        (result ≡ told s (register_of s register)) × Still (machine heap.new (M.WordMemory.words loan.new.memory)) s }
+    requires { (register < 16) × Unstacked loan.old × ((s : State) × Still (machine heap.old (M.WordMemory.words loan.old.memory.now)) s) }
+    ensures told { (s : State) → Still (machine heap.old (M.WordMemory.words loan.old.memory.now)) s →
+        (result ≡ told s (register_of s register)) × Still (machine heap.new (M.WordMemory.words loan.new.memory.now)) s }
     ensures lent { GivenBack M.WordMemory.lender loan.old loan.new }
 {
     heap.tell(loan, register).unwrap()
 }
 
 /// What every register of a heap in order holds.
-fn tell_all<M: WordMemory>(heap: &mut Heap, loan: &mut Loan<M>) -> [Told; 16]
-    requires { Unstacked loan.old × ((s : State) × Still (machine heap.old (M.WordMemory.words loan.old.memory)) s) }
-    ensures { (s : State) → Still (machine heap.old (M.WordMemory.words loan.old.memory)) s → result ≡ all_told s }
+fn tell_all<M: WordMemory>(heap: &mut Heap, loan: &mut Loan<M>) -> [Told; REGISTERS]
+    requires { Unstacked loan.old × ((s : State) × Still (machine heap.old (M.WordMemory.words loan.old.memory.now)) s) }
+    ensures { (s : State) → Still (machine heap.old (M.WordMemory.words loan.old.memory.now)) s → result ≡ all_told s }
 {
-    let mut all = [Told::Null; 16];
+    let mut all = [Told::Null; REGISTERS];
+    // By index, since it names the register that is asked for.
     for r in 0..16u32 {
         all[r as usize] = told(heap, loan, r);
     }
@@ -43,8 +46,8 @@ const MEMORY: usize = 5120;
 
 /// A heap with dynamic windows of 512 words for each kind.
 fn sheet_heap<M: WordMemory>(loan: &mut Loan<M>) -> Result<Heap, TextFault>
-    requires { (length (M.WordMemory.words loan.old.memory) ≡ 5120) × Unstacked loan.old }
-    ensures made { MatchResult result (λ h. Still (machine h (M.WordMemory.words loan.new.memory)) (empty_state sheet_windows)) (λ _. ⊥) }
+    requires { (length (M.WordMemory.words loan.old.memory.now) ≡ 5120) × Unstacked loan.old }
+    ensures made { MatchResult result (λ h. Still (machine h (M.WordMemory.words loan.new.memory.now)) (empty_state sheet_windows)) (λ _. ⊥) }
     ensures lent { GivenBack M.WordMemory.lender loan.old loan.new }
 {
     let windows = Windows {
@@ -52,12 +55,12 @@ fn sheet_heap<M: WordMemory>(loan: &mut Loan<M>) -> Result<Heap, TextFault>
         fixed: 0,
         read_only: 0,
     };
-    at_line(0, Heap::new([windows; 5], loan))
+    at_line(0, Heap::new([windows; Kind::COUNT], loan))
 }
 
 /// Opens a text on a heap with dynamic windows of 512 words for each kind, and tells what its registers then hold.
-fn run_sheet<M: WordMemory>(loan: &mut Loan<M>, text: &[u8]) -> Result<[Told; 16], TextFault>
-    requires { (length (M.WordMemory.words loan.old.memory) ≡ 5120) × Unstacked loan.old }
+fn run_sheet<M: WordMemory>(loan: &mut Loan<M>, text: &[u8]) -> Result<[Told; REGISTERS], TextFault>
+    requires { (length (M.WordMemory.words loan.old.memory.now) ≡ 5120) × Unstacked loan.old }
     ensures { Gives text.now result }
 {
     let mut heap = sheet_heap(loan)?;
@@ -70,8 +73,9 @@ pub fn sheet_of(alloc: Global, text: &[u8]) -> Result<String, AllocError>
     ensures { IfOk result (λ s. Sheet text.now (string_bytes s)) }
 {
     let mut words = vec![in alloc; 0u32; MEMORY]?;
+    let mut memory = Words(words.as_mut_slice());
     let mut loan = Loan {
-        memory: Words(words.as_mut_slice()),
+        memory: &mut memory,
         control: &mut [],
         bindings: &mut [],
     };

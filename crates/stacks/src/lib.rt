@@ -1,7 +1,7 @@
 // The two stacks that a caller lends: what an entry is, and how many there may be.
 #![tactic(auto)]
 
-ghost use Rattle.std.specs.Prelude.{◌≡◌, length};
+ghost use Rattle.std.specs.Prelude.{◌≡◌};
 ghost use Rattle.stacks.specs.Limits.{stacks_fit};
 
 /// A record of the binding stack: a symbol, and what its value cell held before.
@@ -17,9 +17,18 @@ pub const CONTROL_LIMIT: usize = 65_536;
 /// Records that a binding stack may have.
 pub const BINDING_LIMIT: usize = 16_384;
 
-/// Neither stack is over its limit.
-pub fn stacks_fit(control: &[u32], bindings: &[Binding]) -> bool
-    ensures { result ≡ stacks_fit (length control.now) (length bindings.now) }
-{
-    control.len() <= CONTROL_LIMIT && bindings.len() <= BINDING_LIMIT
+/// How long the two stacks are that a call is lent.
+#[derive(Clone, Copy, PartialEq, Eq, Debug)]
+pub struct StackLengths {
+    pub control: usize,
+    pub bindings: usize,
+}
+
+impl StackLengths {
+    /// Neither stack is over its limit.
+    pub fn fit(self) -> bool
+        ensures { result ≡ stacks_fit self.control self.bindings }
+    {
+        self.control <= CONTROL_LIMIT && self.bindings <= BINDING_LIMIT
+    }
 }

@@ -10,7 +10,7 @@ use Rattle.store.specs.declared.windows.Window.{Window}
 use Rattle.store.specs.declared.state.Store.{Store}
 use Rattle.store.specs.Windows.{holds}
 use Rattle.store.specs.Checks.{in_use}
-use Rattle.store.specs.View.{rooms_of, table_of}
+use Rattle.store.specs.View.{rooms_of, begins_of, table_of}
 use Rattle.store.proofs.Sums.{length-starts, starts-next}
 
 -- A window without words.
@@ -26,8 +26,8 @@ module _ (s : Store) where
   count-windows =
       let a = ap length s.laid in
       let b = length-map s.windows (λ (w : Window). w.start) in
-      let c = length-take 20 (starts_from 0 (rooms_of s)) in
-      let d = length-starts 0 (rooms_of s) in omega (arith, a, b, c, d, length-rooms)
+      let c = length-take 20 (starts_from (get_or (begins_of s) 0 0) (rooms_of s)) in
+      let d = length-starts (get_or (begins_of s) 0 0) (rooms_of s) in omega (arith, a, b, c, d, length-rooms)
 
   module _ (j : ℕ) (d : Window) (l : j < 20) where
     abbrev w : Window
@@ -38,7 +38,7 @@ module _ (s : Store) where
 
     pub start-of : start (table_of s) j ≡ w.start
     start-of =
-        let a = get_or-take 20 (starts_from 0 (rooms_of s)) j 0 l in
+        let a = get_or-take 20 (starts_from (get_or (begins_of s) 0 0) (rooms_of s)) j 0 l in
         let b = ap (λ xs. get_or xs j 0) s.laid in
         let c = get_or-map (λ (w : Window). w.start) s.windows j d 0 inside in sym a ∙ sym b ∙ c
 
@@ -51,7 +51,7 @@ module _ (s : Store) where
     -- A window begins where the one before ends.
     pub end-of : start (table_of s) (suc j) ≡ w.start + w.room
     end-of =
-        let n = starts-next (rooms_of s) j (omega (arith, l, count-windows, length-rooms)) in
+        let n = starts-next (get_or (begins_of s) 0 0) (rooms_of s) j (omega (arith, l, count-windows, length-rooms)) in
         let r = get_or-map (λ (w : Window). w.room) s.windows j d 0 inside in omega (arith, n, r, start-of)
 
     pub room-of : room (table_of s) j ≡ w.room
@@ -83,9 +83,9 @@ module _ (ws : List Window) (j : ℕ) (w d : Window) where
   abbrev new : List Window
   new = set ws j w
 
-  pub laid-still : w.start ≡ former.start → w.room ≡ former.room → map (λ (w : Window). w.start) ws ≡ take 20 (starts_from 0 (map (λ (w : Window). w.room) ws)) →
-      map (λ (w : Window). w.start) new ≡ take 20 (starts_from 0 (map (λ (w : Window). w.room) new))
-  laid-still a b l = map-set_same (λ (w : Window). w.start) ws j w d a ∙ l ∙ ap (λ ns. take 20 (starts_from 0 ns)) (sym (map-set_same (λ (w : Window). w.room) ws j w d b))
+  pub laid-still : w.start ≡ former.start → w.room ≡ former.room → map (λ (w : Window). w.start) ws ≡ take 20 (starts_from (get_or (map (λ (w : Window). w.start) ws) 0 0) (map (λ (w : Window). w.room) ws)) →
+      map (λ (w : Window). w.start) new ≡ take 20 (starts_from (get_or (map (λ (w : Window). w.start) new) 0 0) (map (λ (w : Window). w.room) new))
+  laid-still a b l = rw (map-set_same (λ (w : Window). w.start) ws j w d a, map-set_same (λ (w : Window). w.room) ws j w d b) l
 
   -- A part of it may change.
   pub changed-unless : (f : Window → ℕ) (b : Bool) (x : ℕ) → f w ≡ cond b (f former) x → map f new ≡ cond b (map f ws) (set (map f ws) j x)

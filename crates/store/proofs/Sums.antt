@@ -19,11 +19,11 @@ starts-sum a (n ∷ ns) (suc j) d l =
     let s = sum_by-cons (λ x. x) n (take j ns) in omega arith
 
 -- Each start is the one before and its window's length.
-pub starts-next : (ns : List ℕ) (j : ℕ) → j < length ns → get_or (starts_from 0 ns) (suc j) 0 ≡ get_or (starts_from 0 ns) j 0 + get_or ns j 0
-starts-next ns j l =
+pub starts-next : (b : ℕ) (ns : List ℕ) (j : ℕ) → j < length ns → get_or (starts_from b ns) (suc j) 0 ≡ get_or (starts_from b ns) j 0 + get_or ns j 0
+starts-next b ns j l =
     let z : suc j ≡ j + 1 = omega arith in
-    let a = starts-sum 0 ns j 0 (omega arith) in
-    let b = starts-sum 0 ns (j + 1) 0 (omega arith) in
+    let a = starts-sum b ns j 0 (omega arith) in
+    let c = starts-sum b ns (j + 1) 0 (omega arith) in
     let m = sum_by_more (λ x. x) ns j 0 l in rw z (omega arith)
 
 -- The last window ends after all words.

@@ -9,10 +9,10 @@ ghost use Rattle.store.specs.Checks.{admitted, long_enough, in_use, reaches, dyn
 
 use answers::Refusal;
 use kinds::Kind;
-use loan::Loan;
 use memory::WordMemory;
 pub use spaces::Space;
-pub use state::{REGISTERS, Store, WINDOWS};
+use stacks::StackLengths;
+pub use state::{LAST, REGISTERS, Store, WINDOWS};
 pub use windows::Window;
 
 mod state;
@@ -37,8 +37,14 @@ impl Store {
     /// What every call asks first: that no foreign word was found, that it names only registers, spaces and access types
     /// that there are, that the memory has the windows' words, and that no stack is over its limit.
     #[tactic(auto, unfolding(crate::specs::Checks::admitted, crate::specs::Checks::long_enough))]
-    pub fn admit<M: WordMemory>(&self, known: bool, loan: &Loan<M>) -> Result<(), Refusal>
-        ensures admits { result ≡ admitted self.now.foreign known (long_enough (table_of self.now) (length (M.WordMemory.words loan.now.memory)) (length loan.now.control.now) (length loan.now.bindings.now)) }
+    pub fn admit<M: WordMemory>(
+        &self,
+        // A flag, since a register that is known is the number that was given.
+        known: bool,
+        memory: &M,
+        stacks: StackLengths,
+    ) -> Result<(), Refusal>
+        ensures admits { result ≡ admitted self.now.foreign known (long_enough (table_of self.now) (length (M.WordMemory.words memory.now)) stacks.control stacks.bindings) }
         ensures known { OnOk result (known ≡ true) }
     {
         if let Some(place) = self.foreign {
@@ -47,7 +53,7 @@ impl Store {
         if !known {
             return Err(Refusal::Unknown);
         }
-        if !loan.has(self.end()) {
+        if memory.len() < self.end() || !stacks.fit() {
             return Err(Refusal::Short);
         }
         Ok(())
@@ -65,6 +71,7 @@ impl Store {
     pub fn in_use(&self, window: usize, offset: usize, size: usize) -> bool
         ensures { result ≡ in_use (table_of self.now) window offset size }
     {
+        // A `match`, since the check finds no proof of `is_some_and` by itself.
         match self.windows.get(window) {
             Some(w) => w.holds(offset, size),
             None => false,

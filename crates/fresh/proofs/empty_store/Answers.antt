@@ -1,6 +1,6 @@
 use Rattle.std.proofs.Common.{◌<◌, length, ap, ◌∙◌, arith, refl}
 use Rattle.fresh.proofs.Rooms.{length-lengths, fit-narrow}
-use Rattle.fresh.proofs.Laying.{rooms-laid, lows-laid, highs-laid, starts-laid}
+use Rattle.fresh.proofs.Laying.{rooms-laid, lows-laid, highs-laid, first-laid, starts-laid}
 use Rattle.fresh.proofs.empty_store.Goals as goal
 
 pub lay_out-requires : goal.lay_out-requires
@@ -18,4 +18,5 @@ returns c = λ ws.
     let rooms = rooms-laid c.lay_out.result c.lengths.result c.lay_out.ensures (omega (arith, n)) in
     let lows = lows-laid c.lay_out.result c.lengths.result c.lay_out.ensures (omega (arith, n)) in
     let highs = highs-laid c.lay_out.result c.lengths.result c.lay_out.ensures (omega (arith, n)) in
-    rw (rooms, lows, highs, c.lengths.ensures) refl
+    let first = first-laid c.lay_out.result c.lengths.result c.lay_out.ensures (omega (arith, n)) in
+    rw (first, rooms, lows, highs, c.lengths.ensures) refl

@@ -6,7 +6,7 @@ use Rattle.sheet.proofs.sheet_heap.Goals as goal
 
 pub returns : goal.returns
 returns g c = record {
-  made = lined-heap (λ h. Still (machine h (g.M.WordMemory.words c.new.new.loan.memory)) (empty_state sheet_windows)) c.new.result c.at_line.result c.at_line.ensures
-      (sheet-heap (g.M.WordMemory.words c.args.loan.now.memory) (g.M.WordMemory.words c.new.new.loan.memory) c.new.result c.requires.0 (rw (c.requires.1.0, c.requires.1.1) at c.new.ensures.makes) c.new.ensures.empty);
+  made = lined-heap (λ h. Still (machine h (g.M.WordMemory.words c.new.new.loan.memory.now)) (empty_state sheet_windows)) c.new.result c.at_line.result c.at_line.ensures
+      (sheet-heap (g.M.WordMemory.words c.args.loan.now.memory.now) (g.M.WordMemory.words c.new.new.loan.memory.now) c.new.result c.requires.0 (rw (c.requires.1.0, c.requires.1.1) at c.new.ensures.makes) c.new.ensures.empty);
   lent = c.new.ensures.lent;
 }

@@ -9,5 +9,5 @@ use Rattle.sheet.proofs.tell_all.Given as goal
 -- The registers below r are told as they are, and nothing has changed.
 abbrev pub invariant-loop-r : goal.invariant-loop-r
 invariant-loop-r g l =
-    (length l.all ≡ 16) × GivenBack g.M.WordMemory.lender l.initial.loan l.loan × ((s : State) → Still (machine l.initial.heap (g.M.WordMemory.words l.initial.loan.memory)) s →
-    Still (machine l.heap (g.M.WordMemory.words l.loan.memory)) s × ((i : ℕ) → i < l.r → get_or l.all i Null ≡ told s (register s i)))
+    (length l.all ≡ 16) × GivenBack g.M.WordMemory.lender l.initial.loan l.loan × ((s : State) → Still (machine l.initial.heap (g.M.WordMemory.words l.initial.loan.memory.now)) s →
+    Still (machine l.heap (g.M.WordMemory.words l.loan.memory.now)) s × ((i : ℕ) → i < l.r → get_or l.all i Null ≡ told s (register s i)))

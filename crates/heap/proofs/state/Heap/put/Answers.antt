@@ -1,9 +1,9 @@
-use Rattle.std.proofs.Common.{length, refl}
+use Rattle.std.proofs.Common.{refl}
 use Rattle.laws.proofs.Calls.{put-promised}
 use Rattle.heap.proofs.state.Heap.put.Goals as goal
 
 pub returns : goal.returns
 returns g c = record {
-  promised = put-promised (length c.args.loan.now.control.now) (length c.args.loan.now.bindings.now) c.args.to c.args.value _ _ _ _ _ (c.put-r.ensures.does _) (c.note.ensures.noted _) c.note.ensures.same;
-  lent = (refl, refl, refl);
+  promised = rw (← c.stack_lengths-stacks.ensures.0, ← c.stack_lengths-stacks.ensures.1) (put-promised c.stack_lengths-stacks.result.control c.stack_lengths-stacks.result.bindings c.args.to c.args.value _ _ _ _ _ (c.put-r.ensures.does _) (c.note.ensures.noted _) c.note.ensures.same);
+  lent = record { memory = refl; lender = refl; control = refl; bindings = refl };
 }

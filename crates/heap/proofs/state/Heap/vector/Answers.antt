@@ -1,4 +1,4 @@
-use Rattle.std.proofs.Common.{length}
+use Rattle.std.proofs.Common.{length, refl}
 use Rattle.store.proofs.Laid.{ordered}
 use Rattle.laws.proofs.Calls.{vector-promised}
 use Rattle.laws.proofs.Views.{code-small}
@@ -6,7 +6,7 @@ use Rattle.heap.proofs.state.Heap.vector.Goals as goal
 
 pub returns : goal.returns
 returns g c = record {
-  promised = vector-promised (length c.args.loan.now.control.now) (length c.args.loan.now.bindings.now) c.args.to c.args.count c.args.fill _ _ _ _ _ (ordered c.args.self.now.store) c.args.self.now.store.which
-      (code-small c.args.self.now.allocation.space) c.make_vector-r.ensures.makes (c.note.ensures.noted _) c.note.ensures.same;
-  lent = c.make_vector-r.ensures.lent;
+  promised = rw (← c.stack_lengths-stacks.ensures.0, ← c.stack_lengths-stacks.ensures.1) (vector-promised c.stack_lengths-stacks.result.control c.stack_lengths-stacks.result.bindings c.args.to c.args.count c.args.fill _ _ _ _ _ (ordered c.args.self.now.store) c.args.self.now.store.which
+      (code-small c.args.self.now.allocation.space) c.make_vector-r.ensures.makes (c.note.ensures.noted _) c.note.ensures.same);
+  lent = record { memory = refl; lender = c.make_vector-r.ensures.lender; control = refl; bindings = refl };
 }

@@ -1,0 +1,26 @@
+// What the tests share: windows of one kind, and loans without stacks.
+use heap::Windows;
+use kinds::Kind;
+use loan::Loan;
+
+pub(crate) const EMPTY: Windows = Windows {
+    dynamic: 0,
+    fixed: 0,
+    read_only: 0,
+};
+
+// Windows for one kind, and none for the others.
+pub(crate) fn alone(kind: Kind, windows: Windows) -> [Windows; Kind::COUNT] {
+    let mut all = [EMPTY; Kind::COUNT];
+    all[kind.index()] = windows;
+    all
+}
+
+// A memory lent with stacks that have no room.
+pub(crate) fn lent<M>(memory: &mut M) -> Loan<'_, M> {
+    Loan {
+        memory,
+        control: &mut [],
+        bindings: &mut [],
+    }
+}
