@@ -14,6 +14,7 @@ use stacks::StackLengths;
 use store::{LAST, Space, Store, is_dynamic, window};
 use words::{Literal, NoLiteral};
 
+// Store, memory and stacks stay apart: the store is the heap's and the rest is lent, and a struct of them would be made for each call.
 /// Sets a register to a fixnum, a character or null.
 #[tactic(auto, unfolding(crate::specs::Access::put_done))]
 pub fn put<M: WordMemory>(
@@ -105,6 +106,7 @@ fn told<M: WordMemory>(store: &Store, memory: &M, word: u32) -> Result<Told, Ref
         Err(NoLiteral) => {
             let object = open(store, memory, word)?;
             let space = Space::try_from(object.space).unwrap_or(Space::Dynamic);
+            // Space code 1, the other dynamic space, is no number that callers use: it is told as dynamic.
             Ok(Told::Object {
                 kind: object.kind,
                 space,

@@ -108,7 +108,7 @@ pub enum Refusal {
 }
 
 impl Refusal {
-    // A method, since `u32::from(refusal)` is no plainer than `refusal.number()`.
+    // A method and no `From`: the number is one thing told of a refusal, its place another.
     /// The number that users know the refusal by.
     pub fn number(self) -> u32
         ensures { result ≡ number_of self }

@@ -85,7 +85,7 @@ pub fn load<M: WordMemory>(
 pub fn can_take(object: Opened, k: u32, w: u32) -> bool
     ensures { result ≡ fits_cell object k w }
 {
-    // A `match`, since the check finds no proof of `is_ok_and` by itself.
+    // A `match`: `is_ok_and` is no plainer, and would need a proof written out.
     match Class::try_from(w) {
         Err(_) => false,
         Ok(class) => object.kind.accepts(k as usize, class)

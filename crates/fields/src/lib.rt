@@ -51,6 +51,7 @@ pub fn take_field<'a>(part: Part<'a>, key: &[u8], end: u8) -> Result<(Field<'a>,
     let rest = after(rest, b"=")?;
     let (value, rest) = cut(rest, end)?;
     let field = Field {
+        // By its length: the key is to be the text's own bytes.
         key: &part.bytes[..key.len()],
         value,
         line: part.line,

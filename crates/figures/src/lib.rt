@@ -3,6 +3,7 @@
 
 ghost use Rattle.figures.specs.Figures.{Figures};
 
+// A fact of its own: the documents name it by this function.
 /// The worked figures hold of the formats.
 pub fn figures_hold()
     ensures { Figures }

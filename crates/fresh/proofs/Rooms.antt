@@ -1,7 +1,7 @@
 -- Laws of the windows' lengths.
 use Rattle.std.proofs.Common.{◌≡◌, ℕ, zero, suc, ◌+◌, ◌*◌, ◌<◌, ◌≤◌, true, false, ◌&&◌, leb, List, [], ◌∷◌, ◌++◌, length, get_or, take, drop, Bool, MatchBool, sym, refl, arith}
 use Rattle.std.specs.List.{AllByRecursion, AllWithin, HoldsAt}
-use Rattle.std.proofs.lemmas.List.{take_more, flat_map_more, length-append, length-take, length-drop}
+use Rattle.std.proofs.lemmas.List.{take_more, drop_all, flat_map_more, length-append, length-take, length-drop}
 use Rattle.std.proofs.Math.Bool.{and-false}
 use Rattle.std.proofs.lemmas.Bool.{and_parts, leb-true}
 use borrow.Rule.Slice.PartMut.{put_mid}
@@ -46,6 +46,11 @@ fit-narrow (w ∷ ws) e =
     let c = and_parts (leb w.fixed 65536) (leb w.read_only 65536) b.1 in
     let d = leb-true w.dynamic 65536 b.0 in
     (d, (d, (leb-true w.fixed 65536 c.0, (leb-true w.read_only 65536 c.1, fit-narrow ws a.1))))
+
+-- No window is left that could fail to fit.
+pub fit_none : (ws : List Windows) (i : ℕ) → length ws ≤ i → windows_fit (drop i ws) ≡ true
+unfolding windows_fit
+fit_none ws i l = rw (drop_all i ws l) refl
 
 -- All windows fit, or there is one that does not.
 pub fit-all : (ws : List Windows) → AllWithin (λ w. narrow w ≡ true) ws 0 (length ws) → windows_fit ws ≡ true

@@ -31,7 +31,7 @@ fn lengths(windows: [Windows; Kind::COUNT]) -> [usize; WINDOWS]
     ensures { result ≡ lengths windows }
 {
     let mut rooms = [0; WINDOWS];
-    // By index, since after an adapter of `iter_mut` nothing is known of the elements.
+    // By index: after an adapter of `iter_mut` nothing is known of the elements, and `from_fn` would divide to find kind and window.
     for (k, w) in windows.iter().enumerate() {
         rooms[4 * k..4 * k + 4].copy_from_slice(&w.rooms());
     }
@@ -51,7 +51,7 @@ fn lay_out(rooms: [usize; WINDOWS]) -> [Window; WINDOWS]
     };
     let mut windows = [empty; WINDOWS];
     let mut start = 0;
-    // By index, as in `lengths`.
+    // By index: with `map` or `from_fn` the sum so far would be the state of a closure.
     for (i, room) in rooms.iter().enumerate() {
         windows[i] = Window {
             start,

@@ -53,7 +53,8 @@ impl Drop for SpaceGuard<'_> {
     }
 }
 
-// Each call has a name and a promise of its own, so the calls stand side by side: the inner function, and then `note`.
+// Each call has a name and a promise of its own, so the calls stand side by side: the inner function, and then `note`. A function over a
+// closure would promise what its closure promises, and each call would say that again.
 impl Heap {
     /// Makes a heap with windows of these lengths, kind by kind in order of type code, in a memory of any contents. It clears the
     /// windows' words; registers hold null, and new objects go to dynamic space.
@@ -259,6 +260,7 @@ impl Heap {
     fn named_space<M: WordMemory>(&self, loan: &Loan<M>, space: u32) -> Result<Space, Refusal>
         ensures { result ≡ admitted_space (admitted self.now.store.foreign (is_some (space_at space)) (long_enough (table_of self.now.store) (length (M.WordMemory.words loan.now.memory.now)) (length loan.now.control.now) (length loan.now.bindings.now))) (space_at space) }
     {
+        // The flag first, since a foreign word is answered before an unknown space, and an unknown space before a short memory.
         let named = Space::try_from(space);
         let stacks = loan.stack_lengths();
         self.store.admit(named.is_ok(), loan.memory, stacks)?;

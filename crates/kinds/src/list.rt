@@ -24,7 +24,7 @@ impl TryFrom<u32> for Kind {
     }
 }
 
-// `descriptor` and `accepts` are one `match` each: a value of a trait object may not be handed out, and a closure cannot be generic over the kind.
+// `descriptor` and `accepts` are one `match` each: no function may hand out a `dyn` value, and a closure cannot be generic over a type.
 impl Kind {
     /// How many kinds there are.
     pub const COUNT: usize = 5;

@@ -99,7 +99,7 @@ pub trait ObjectKind {
     ghost described: { Describes kind DESCRIPTOR };
 }
 
-// The entries of a kind that has none, since its cells are boxed.
+// The entries of a boxed kind, which has none: a value and no `Option`, since its access type is asked for as well.
 const NO_ENTRIES: Entries = Entries {
     least_access: 0,
     greatest_access: 0,

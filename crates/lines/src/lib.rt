@@ -47,6 +47,7 @@ impl<'a> Iterator for Reader<'a> {
     /// The next line with the byte 10 that ends it; only a last line may lack that byte.
     fn next(&mut self) -> Option<Part<'a>> {
         let bytes = self.rest.split_inclusive(|b| *b == b'\n').next()?;
+        // By its length, since `split_inclusive` does not give what follows.
         self.rest = &self.rest[bytes.len()..];
         self.line += 1;
         Some(Part {

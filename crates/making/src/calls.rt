@@ -29,6 +29,7 @@ fn is_string(w: u32) -> bool
 }
 
 // The makings stand side by side, since each has refusals and first words of its own; what they share is in `admit` and `make`.
+// Store, memory and stacks stay apart: the store is the heap's and the rest is lent, and a struct of them would be made for each call.
 /// Makes a list of what two registers hold.
 #[tactic(auto, unfolding(crate::specs::Makings::list_made))]
 pub fn make_list<M: WordMemory>(

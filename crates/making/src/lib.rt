@@ -61,6 +61,7 @@ fn extended(w: Window, space: Space, offset: usize, size: usize) -> Window
     ensures high { result.high ≡ cond (code_of space == 0) offset w.high }
     ensures rest { (result.start ≡ w.start) × (result.room ≡ w.room) }
 {
+    // Written out, since a struct with an invariant takes no `..w`.
     let Window {
         start,
         room,

@@ -23,7 +23,8 @@ pub trait WordMemory {
     // The words that the memory holds.
     ghost words: { Self → List ℕ };
 
-    // The slice that the memory borrows, which stays the same one.
+    // The slice that the memory borrows, which stays the same one. That is a clause and no invariant, since it ties the memory after a call to
+    // the memory before it.
     ghost lender: { Self → GName };
 
     /// How many words there are.
@@ -40,6 +41,7 @@ pub trait WordMemory {
         ensures lender { lender self.new ≡ lender self.old };
 }
 
+// A fact of its own: the documents name it by this function.
 /// The worked figures hold of the formats and of a memory of halves.
 pub fn figures_hold()
     ensures { PlacedFigures }

@@ -74,7 +74,7 @@ fn measure<M: WordMemory>(
     Ok((cells, words::access_type(second)))
 }
 
-// Kind, space and offset are read off the word where they are wanted: each is one shift, and a struct of them would be read as often.
+// Kind, space and offset are taken from the word where they are wanted: a struct of them would hold no more than the word.
 /// The place that a word of this kind points to.
 #[tactic(auto, unfolding(crate::specs::Open::located))]
 fn locate(store: &Store, kind: Kind, w: u32) -> u32

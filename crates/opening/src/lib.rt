@@ -16,7 +16,7 @@ use stacks::StackLengths;
 use store::{Space, Store};
 
 // Store and space are the heap's, memory and stacks the caller's: one struct of them would be made anew for each call.
-// A `match`, since the calls are closed and each has arguments of its own.
+// A `match`, since the calls are a fixed list and each has arguments of its own.
 /// Does what a line spells, new objects going to this space.
 #[tactic(auto, unfolding(crate::specs::Opening::performed))]
 pub fn perform<M: WordMemory>(

@@ -83,12 +83,17 @@ keys-same c d e =
     let q = ap (λ (l : Line). keys (form_of l).1) (build-at (form_of d).0 d refl) in
     p ∙ keys-build (form_of d).0 (form_of c).1 (form_of d).1 ∙ sym q
 
--- Where no line of this operation is written so, no call of an operation equal to it is read.
+-- Where no line of this operation is written so, no line of an operation equal to it is.
+pub no_call : (o : Op) (s : lists.List ℕ) → ((fs : Fields) → s ≡ fields_text (form_of (build o fs)).1 → SmallLine (build o fs) → ⊥) →
+    (q : Op) → q ≡ o → (l : Line) → s ≡ fields_text (form_of l).1 → ((form_of l).0 ≡ q) × SmallLine l → ⊥
+no_call o s none q e l d h =
+    let b = build-at o l (h.0 ∙ e) in
+    none (form_of l).1 (d ∙ ap (λ (m : Line). fields_text (form_of m).1) b) (subst SmallLine b h.1)
+
+-- And then no call of it is read.
 pub refused : (o : Op) (s : lists.List ℕ) (q : Op) (r : Result Line NoForm) → q ≡ o → IsErr r →
     ((fs : Fields) → s ≡ fields_text (form_of (build o fs)).1 → SmallLine (build o fs) → ⊥) →
     Parses (λ l. fields_text (form_of l).1) (λ l. ((form_of l).0 ≡ q) × SmallLine l) s r
 refused o s q r e err none =
     MatchResult-from_err r _ _ err
-    (λ _ l d h.
-    let b = build-at o l (h.0 ∙ e) in
-    none (form_of l).1 (d ∙ ap (λ (m : Line). fields_text (form_of m).1) b) (subst SmallLine b h.1))
+    (λ _ l d h. no_call o s none q e l d h)

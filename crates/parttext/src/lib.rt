@@ -37,7 +37,7 @@ impl<'a> TryFrom<Part<'a>> for Line {
     }
 }
 
-// The call of this operation whose fields the rest of the line holds. A `match`, since the operations are closed and each has fields of its own.
+// The call of this operation whose fields the rest of the line holds. A `match`, since the operations are a fixed list and each has fields of its own.
 fn call_of(op: Op, rest: Part) -> Result<Line, NoForm>
     ensures { Parses (λ c. fields_text (form_of c).1) (λ c. ((form_of c).0 ≡ op) × SmallLine c) rest.entry.bytes.now result }
 {

@@ -34,7 +34,7 @@ fn tell_all<M: WordMemory>(heap: &mut Heap, loan: &mut Loan<M>) -> [Told; REGIST
     ensures { (s : State) → Still (machine heap.old (M.WordMemory.words loan.old.memory.now)) s → result ≡ all_told s }
 {
     let mut all = [Told::Null; REGISTERS];
-    // By index, since it names the register that is asked for.
+    // By index: with `from_fn` the heap and the loan would be the state of a closure, and their promise one over its turns.
     for r in 0..16u32 {
         all[r as usize] = told(heap, loan, r);
     }

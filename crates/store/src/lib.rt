@@ -18,6 +18,7 @@ pub use windows::Window;
 mod state;
 mod windows;
 
+// The space code as a number: the windows of a kind are counted by it, and pointers hold it.
 /// The window of this kind and space code.
 pub fn window(kind: Kind, space: u32) -> usize
     ensures { result ≡ window_of kind space }
@@ -39,7 +40,7 @@ impl Store {
     #[tactic(auto, unfolding(crate::specs::Checks::admitted, crate::specs::Checks::long_enough))]
     pub fn admit<M: WordMemory>(
         &self,
-        // A flag, since a register that is known is the number that was given.
+        // A flag: what is known, a register's number or a space, the caller has already.
         known: bool,
         memory: &M,
         stacks: StackLengths,
@@ -71,7 +72,7 @@ impl Store {
     pub fn in_use(&self, window: usize, offset: usize, size: usize) -> bool
         ensures { result ≡ in_use (table_of self.now) window offset size }
     {
-        // A `match`, since the check finds no proof of `is_some_and` by itself.
+        // A `match`: `is_some_and` is no plainer, and would need a proof written out.
         match self.windows.get(window) {
             Some(w) => w.holds(offset, size),
             None => false,

@@ -22,7 +22,7 @@ pub struct Store {
     pub windows: [Window; WINDOWS],
     /// Read-only words of each kind that take no writes, from the window's start.
     pub frozen: [usize; Kind::COUNT],
-    // A number and no enum: it is one of the four space codes, by which the windows of a kind are counted.
+    // A number and no enum: it is a space code, by which the windows of a kind are counted and which pointers hold.
     /// The dynamic space that new objects go to, 0 or 1.
     pub newspace: usize,
     pub registers: [u32; REGISTERS],

@@ -157,6 +157,7 @@ pub fn join_halves(low: u16, high: u16) -> u32
     in_field::<0, 16>(u32::from(low)) + in_field::<16, 16>(u32::from(high))
 }
 
+// A fact of its own: the documents name it by this function.
 /// The worked figures hold of the formats.
 pub fn figures_hold()
     ensures { Figures }
