@@ -1,7 +1,8 @@
 -- Texts that are cut at the first of some byte.
 
-use Rattle.std.proofs.Common.{◌≡◌, ℕ, zero, suc, ◌+◌, ◌<◌, List, [], ◌∷◌, ◌++◌, length, get_or, take, drop, sym, refl, ap, ◌∙◌, arith, length-append}
+use Rattle.std.proofs.Common.{◌≡◌, ℕ, zero, suc, ◌+◌, ◌<◌, Bool, true, not, ◌&&◌, eqb, List, [], ◌∷◌, ◌++◌, length, get_or, take, drop, sym, refl, ap, ◌∙◌, arith, length-append}
 use Rattle.std.proofs.lemmas.List.{get_or_at, get_or-take, length-take, drop_more, take-append-drop}
+use Rattle.std.proofs.lemmas.Bool.Decides.{nat_tests}
 use Rattle.lines.specs.Lines.{Free}
 
 pub free-tail : (b x : ℕ) (s : List ℕ) → Free b (x ∷ s) → Free b s
@@ -11,6 +12,16 @@ pub free-append : (b : ℕ) (s t : List ℕ) → Free b s → Free b t → Free 
 free-append b [] t f g i h = g i h
 free-append b (x ∷ s) t f g zero h = f zero (omega arith)
 free-append b (x ∷ s) t f g (suc i) h = free-append b s t (free-tail b x s f) g i (omega arith)
+
+-- A test for `Free` that computes.
+abbrev pub lacks : ℕ → List ℕ → Bool
+lacks b [] = true
+lacks b (x ∷ s) = not (eqb x b) && lacks b s
+
+pub free-from-lacks : (b : ℕ) (s : List ℕ) → lacks b s ≡ true → Free b s
+free-from-lacks b [] t i h e = omega arith
+free-from-lacks b (x ∷ s) t zero h e = grind (arith, nat_tests)
+free-from-lacks b (x ∷ s) t (suc i) h e = free-from-lacks b s (grind (arith, nat_tests)) i (omega arith) e
 
 pub free-take : (b : ℕ) (s : List ℕ) (n : ℕ) → ((k : ℕ) → k < n → get_or s k 0 ≡ b → ⊥) → Free b (take n s)
 free-take b s n f i h e =

@@ -1,6 +1,6 @@
 -- The lines of a text, by its first line.
 
-use Rattle.std.proofs.Common.{◌≡◌, ℕ, zero, ◌+◌, ◌-◌, ◌<◌, ◌≤◌, min, true, false, cond, eqb, List, [], ◌∷◌, ◌++◌, length, get_or, take, drop, sym, refl, ap, ◌∙◌, ⊎_elim, arith, ne_eqb}
+use Rattle.std.proofs.Common.{◌≡◌, ℕ, zero, ◌+◌, ◌-◌, ◌<◌, ◌≤◌, min, true, false, cond, eqb, List, [], ◌∷◌, ◌++◌, length, get_or, take, drop, refl, ap, ◌∙◌, ⊎_elim, arith, ne_eqb}
 use Rattle.std.specs.List.{flat_map, IsFirstMatchOrLen}
 use Rattle.lines.specs.Lines.{Free, lines_of, onto}
 use Rattle.std.proofs.lemmas.List.{take_more, take_all, drop_all, take_at, take_rest}
@@ -45,23 +45,28 @@ lines-free [] h f = absurd (omega (arith, h))
 lines-free (b ∷ s) h f = lines-last b s f
 
 -- The first line of a text goes up to its first byte 10, or to the end.
+pub lines-first-by-size : (s : List ℕ) (u size : ℕ) → 0 < length s → ((k : ℕ) → k < u → get_or s k 0 ≡ 10 → ⊥) → (u < length s → get_or s u 0 ≡ 10) → size ≡ min (u + 1) (length s) → lines_of s ≡ take size s ∷ lines_of (drop size s)
+lines-first-by-size s u size h f g e =
+    ⊎_elim
+    (λ (l : u < length s).
+    let n : size ≡ u + 1 = omega arith in
+    let t = take_more s u 0 l in
+    let ten = g l in
+    let cut = lines_cut (take u s) (drop (u + 1) s) (free-take 10 s u f) in
+    rw n (ap lines_of (cut_at 10 s u l ten) ∙ cut ∙ ap (λ (p : List ℕ). p ∷ lines_of (drop (u + 1) s)) (cc)))
+    (λ (l : length s ≤ u).
+    let n : length s ≤ size = omega arith in
+    let all = lines-free s h (λ i k. f i (omega arith)) in
+    rw (take_all size s n, drop_all size s n, lines-nil) all)
+    (cases_lt u (length s))
+
+-- The same, where the text is given as that line and the rest.
 pub lines-first : (s l rest : List ℕ) (u : ℕ) → s ≡ l ++ rest → length l ≡ min (u + 1) (length s) → 0 < length l →
     IsFirstMatchOrLen (λ b. eqb b 10) s u → lines_of s ≡ l ∷ lines_of (take (length s - length l) (drop (length l) s))
 lines-first s l rest u e n h first =
     let before : (k : ℕ) → k < u → get_or s k 0 ≡ 10 → ⊥ = λ k m z. grind (arith, nat_tests, first.0 k 0 (omega arith) m) in
+    let ten : u < length s → get_or s u 0 ≡ 10 = λ m. grind (arith, nat_tests, first.1 m 0) in
     let t : take (length l) s ≡ l = ap (take (length l)) e ∙ take_at l rest (length l) refl in
     let d : take (length s - length l) (drop (length l) s) ≡ drop (length l) s = take_rest s (length l) in
-    ⊎_elim
-    (λ (m : u < length s).
-    let ten : get_or s u 0 ≡ 10 = grind (arith, nat_tests, first.1 m 0) in
-    let k : length l ≡ u + 1 = omega arith in
-    let one : l ≡ take u s ++ 10 ∷ [] = sym t ∙ ap (λ (i : ℕ). take i s) k ∙ take_more s u 0 m ∙ ap (λ (b : ℕ). take u s ++ b ∷ []) ten in
-    let cut = lines_cut (take u s) (drop (u + 1) s) (free-take 10 s u before) in
-    let r : lines_of s ≡ (take u s ++ 10 ∷ []) ∷ lines_of (drop (u + 1) s) = ap lines_of (cut_at 10 s u m ten) ∙ cut in
-    rw (d, k) (cc))
-    (λ (m : length s ≤ u).
-    let k : length l ≡ length s = omega arith in
-    let all = lines-free s (omega arith) (λ i j. before i (omega arith)) in
-    let whole : l ≡ s = sym t ∙ take_all (length l) s (omega arith) in
-    rw (d, drop_all (length l) s (omega arith), lines-nil) (cc))
-    (cases_lt u (length s))
+    let r = lines-first-by-size s u (length l) (omega arith) before ten n in
+    rw d (cc)
