@@ -7,6 +7,7 @@ use Rattle.std.specs.Fmt.{signed_decimal}
 use Rattle.std.proofs.lemmas.Fmt.{digits_decimal, decimal-digits_value, decimal_nonempty, decimal_digit, first_decimal, length-decimal-le, decimal_injective, signed_decimal_injective}
 use Rattle.std.proofs.lemmas.Str.Parse.{IsNumeralModel, numerals_by_fold, tells_by_index, digits_value_short}
 use Rattle.std.proofs.lemmas.List.{take_rest}
+use Rattle.std.proofs.lemmas.Slice.{first_rest}
 use Rattle.std.proofs.lemmas.Bool.{cases_lt}
 use Rattle.numerals.specs.Numbers.{Small, SmallSigned, Graphic}
 
@@ -60,6 +61,13 @@ pub signed-minus : (s : List ℕ) (z : ℤ) → s ≡ signed_decimal z → Small
     (n : ℕ) × (z ≡ negsuc n) × (take (length s - 1) (drop 1 s) ≡ decimal (suc n)) × Small (suc n)
 signed-minus s (pos n) e h m = let d = numeral-from-decimal s n e h in let z : ⊥ = omega (arith, d.digits 0 d.some) in absurd z
 signed-minus s (negsuc n) e h m = (n, refl, take_rest s 1 ∙ ap (drop 1) e, h)
+
+pub minus-decimal : (s : List ℕ) (n : ℕ) → 0 < length s → get_or s 0 0 ≡ 45 → take (length s - 1) (drop 1 s) ≡ decimal (suc n) → s ≡ signed_decimal (negsuc n)
+minus-decimal s n h m e = first_rest s 0 h ∙ cc
+
+pub signed-some : (s : List ℕ) (z : ℤ) → s ≡ signed_decimal z → SmallSigned z → 0 < length s
+signed-some s (pos n) e h = (numeral-from-decimal s n e h).some
+signed-some s (negsuc n) e h = omega (arith, ap length e)
 
 pub decimal-graphic : (n : ℕ) → Small n → Graphic (decimal n)
 decimal-graphic n h i l = omega (arith, (numeral-decimal n h).digits i l)
