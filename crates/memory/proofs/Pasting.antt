@@ -1,6 +1,6 @@
 -- Laws of a block written over a part of a list of words.
-use Rattle.std.proofs.Common.{◌≡◌, ℕ, zero, suc, ◌+◌, ◌<◌, ◌≤◌, ◌≢◌, ◌⊎◌, List, [], ◌∷◌, ◌++◌, length, get_or, take, drop, set, sym, refl, ◌∙◌, inl, inr, arith}
-use Rattle.std.proofs.lemmas.List.{length-set, get_or-set_same, get_or-set_other, length-take-le, take_more, drop-set-lt, take_more_set, append_assoc, take-append-drop}
+use Rattle.std.proofs.Common.{◌≡◌, ℕ, zero, suc, ◌+◌, ◌<◌, ◌≤◌, ◌≢◌, ◌⊎◌, List, [], ◌∷◌, ◌++◌, length, get_or, take, drop, set, replicate, sym, refl, ◌∙◌, inl, inr, arith}
+use Rattle.std.proofs.lemmas.List.{length-set, get_or-set_same, get_or-set_other, length-take-le, length-replicate, take_more, replicate_more, drop-set-lt, take_more_set, append_assoc, take-append-drop}
 use Rattle.memory.specs.Pasted.{pasted}
 
 pub pasted-none : (ws : List ℕ) (a : ℕ) → pasted ws a [] ≡ ws
@@ -62,8 +62,12 @@ pasted-between ws a (x ∷ xs) h =
       append_assoc (take a ws) (x ∷ []) (xs ++ drop (a + 1 + length xs) ws),
     ) refl
 
--- One word more of a block: the next one of the words xs.
+-- One word more of a block: the next one of the words xs, or another w.
 pub pasted-more : (ws : List ℕ) (a : ℕ) (xs : List ℕ) (i : ℕ) → i < length xs → set (pasted ws a (take i xs)) (a + i) (get_or xs i 0) ≡ pasted ws a (take (i + 1) xs)
 pasted-more ws a xs i h =
     let n = length-take-le i xs (omega arith) in
     rw (take_more xs i 0 h, ← pasted-pasted ws a (take i xs) (get_or xs i 0 ∷ []), n, pasted-one (pasted ws a (take i xs)) (a + i) (get_or xs i 0)) refl
+
+pub pasted-replicate : (ws : List ℕ) (a i w : ℕ) → set (pasted ws a (replicate i w)) (a + i) w ≡ pasted ws a (replicate (i + 1) w)
+pasted-replicate ws a i w =
+    rw (← replicate_more i w, ← pasted-pasted ws a (replicate i w) (w ∷ []), length-replicate i w, pasted-one (pasted ws a (replicate i w)) (a + i) w) refl
