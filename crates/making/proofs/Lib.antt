@@ -1,3 +1,4 @@
 pub mod Emplaced
 pub mod Made
 pub mod Room
+pub mod Cursors
