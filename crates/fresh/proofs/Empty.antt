@@ -1,17 +1,30 @@
 -- A store just made is in order, and shows the empty state.
-use Rattle.std.proofs.Common.{◌≡◌, ℕ, zero, suc, ◌<◌, ◌≤◌, true, List, length, get_or, sum, sym, refl, ◌∙◌, arith}
+use Rattle.std.proofs.Common.{◌≡◌, ℕ, zero, suc, ◌<◌, ◌≤◌, true, List, length, get_or, replicate, sum, sym, refl, ◌∙◌, arith}
+use Rattle.std.specs.List.{AllByRecursion}
+use Rattle.std.proofs.ByRecursion.{All-get_or}
 use Rattle.std.proofs.lemmas.Bool.{ne_eqb}
 use Rattle.kinds.specs.declared.kind.Kind.{Kind}
 use Rattle.graph.specs.Shape.{index}
 use Rattle.graph.proofs.Shape.{index_below}
 use Rattle.layout.specs.Machine.{Machine, windows, window, room, now_space}
-use Rattle.layout.specs.Fresh.{fresh_table, fresh_machine, nowhere}
+use Rattle.layout.specs.Ordered.{Ordered}
+use Rattle.layout.specs.Fresh.{starts_from, fresh_table, fresh_machine, nowhere}
 use Rattle.layout.proofs.Fresh.{get_or-all, shows-empty}
 use Rattle.promises.specs.Promise.{Depicts}
 use Rattle.fresh.specs.declared.windows.Windows.{Windows}
 use Rattle.fresh.specs.Windows.{of_kind, lengths, windows_fit, no_windows, empty_state}
 use Rattle.fresh.proofs.Rooms.{length-lengths, get_or-lengths, fit-narrow}
-use Rattle.store.proofs.Sums.{starts-next, starts-end}
+use Rattle.store.proofs.Sums.{starts-sum, starts-next, starts-end, sum-narrow}
+
+pub fresh-ordered : (xs ns : List ℕ) → xs ≡ starts_from 0 ns → length ns ≡ windows → AllByRecursion (λ n. n ≤ 65536) ns → Ordered xs (replicate windows 0) ns
+fresh-ordered xs ns e len small =
+    λ j l.
+    let low = get_or-all windows j 0 in
+    let next = starts-next 0 ns j (omega arith) in
+    let s = starts-sum 0 ns (suc j) 0 (omega arith) in
+    let t = sum-narrow ns (suc j) small in
+    let n = All-get_or (λ n. n ≤ 65536) ns j 0 (omega arith) small in
+    (omega (arith, low), rw e (omega (arith, next)), rw e (omega (arith, next, n)), rw e (omega (arith, s, t, len)))
 
 -- New objects go to the first dynamic space.
 now-first : (e : ℕ) → now_space 0 e ≡ e

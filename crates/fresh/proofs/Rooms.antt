@@ -1,7 +1,7 @@
 -- Laws of the windows' lengths.
-use Rattle.std.proofs.Common.{◌≡◌, ℕ, zero, suc, ◌+◌, ◌*◌, ◌<◌, ◌≤◌, true, false, ◌&&◌, leb, List, [], ◌∷◌, ◌++◌, length, get_or, take, drop, Bool, MatchBool, sym, refl, arith}
+use Rattle.std.proofs.Common.{◌≡◌, ℕ, zero, suc, ◌+◌, ◌*◌, ◌<◌, ◌≤◌, true, false, ◌&&◌, leb, List, [], ◌∷◌, ◌++◌, length, get_or, take, drop, set, Bool, MatchBool, sym, refl, ap, ◌∙◌, arith}
 use Rattle.std.specs.List.{AllByRecursion, AllWithin, HoldsAt}
-use Rattle.std.proofs.lemmas.List.{take_more, drop_all, flat_map_more, length-append, length-take, length-drop}
+use Rattle.std.proofs.lemmas.List.{append_assoc, length-set, take_more, take_more_set, drop_more, drop_all, flat_map_more, length-append, length-take, length-drop}
 use Rattle.std.proofs.Math.Bool.{and-false}
 use Rattle.std.proofs.lemmas.Bool.{and_parts, leb-true}
 use borrow.Rule.Slice.PartMut.{put_mid}
@@ -52,6 +52,15 @@ pub fit_none : (ws : List Windows) (i : ℕ) → length ws ≤ i → windows_fit
 unfolding windows_fit
 fit_none ws i l = rw (drop_all i ws l) refl
 
+-- The windows that are left decide whether all fit.
+pub fit-more : (ws : List Windows) (i : ℕ) (d : Windows) → i < length ws → narrow (get_or ws i d) ≡ true → windows_fit (drop i ws) ≡ windows_fit (drop (i + 1) ws)
+unfolding windows_fit
+fit-more ws i d l e = rw (drop_more ws i d l, e) refl
+
+pub fit-less : (ws : List Windows) (i : ℕ) (d : Windows) → i < length ws → narrow (get_or ws i d) ≡ false → windows_fit (drop i ws) ≡ false
+unfolding windows_fit
+fit-less ws i d l e = rw (drop_more ws i d l, e) refl
+
 -- All windows fit, or there is one that does not.
 pub fit-all : (ws : List Windows) → AllWithin (λ w. narrow w ≡ true) ws 0 (length ws) → windows_fit ws ≡ true
 unfolding windows_fit
@@ -76,3 +85,21 @@ length-put a k xs ys e l =
     let d = length-take a xs in
     let f = length-drop k (drop a xs) in
     let g = length-drop a xs in omega (arith, b, c, d, f, g, e, l)
+
+-- Four words written one after another.
+pub take-four : (xs : List ℕ) (i a b c d : ℕ) → i + 3 < length xs → take (i + 4) (set (set (set (set xs i a) (i + 1) b) (i + 2) c) (i + 3) d) ≡ take i xs ++ (a ∷ (b ∷ (c ∷ (d ∷ []))))
+take-four xs i a b c d l =
+    let xs₁ = set xs i a in
+    let xs₂ = set xs₁ (i + 1) b in
+    let xs₃ = set xs₂ (i + 2) c in
+    let n₁ = length-set xs i a in
+    let n₂ = length-set xs₁ (i + 1) b in
+    let n₃ = length-set xs₂ (i + 2) c in
+    let e₄ : i + 4 ≡ i + 3 + 1 = omega arith in
+    let e₃ : i + 3 ≡ i + 2 + 1 = omega arith in
+    let e₂ : i + 2 ≡ i + 1 + 1 = omega arith in
+    let t₁ : take (i + 1) xs₁ ≡ take i xs ++ (a ∷ []) = take_more_set xs i a (omega arith) in
+    let t₂ : take (i + 2) xs₂ ≡ take (i + 1) xs₁ ++ (b ∷ []) = rw e₂ (take_more_set xs₁ (i + 1) b (omega arith)) in
+    let t₃ : take (i + 3) xs₃ ≡ take (i + 2) xs₂ ++ (c ∷ []) = rw e₃ (take_more_set xs₂ (i + 2) c (omega arith)) in
+    let t₄ : take (i + 4) (set xs₃ (i + 3) d) ≡ take (i + 3) xs₃ ++ (d ∷ []) = rw e₄ (take_more_set xs₃ (i + 3) d (omega arith)) in
+    t₄ ∙ ap (λ ys. ys ++ (d ∷ [])) (t₃ ∙ ap (λ ys. ys ++ (c ∷ [])) (t₂ ∙ ap (λ ys. ys ++ (b ∷ [])) t₁)) ∙ simp append_assoc
