@@ -1,15 +1,15 @@
 -- A text spells one line only.
 
-use Rattle.std.proofs.Common.{◌≡◌, ℕ, ◌≤◌, List, [], ◌∷◌, length, get_or, codes, decimal, sym, refl, ap, ◌∙◌, arith}
+use Rattle.std.proofs.Common.{◌≡◌, ℕ, ◌<◌, ◌≤◌, List, [], ◌∷◌, length, get_or, codes, decimal, sym, refl, ap, ◌∙◌, arith}
 use Prim.Native.String.{String}
 use Rattle.std.specs.List.{AllByRecursion}
 use Rattle.words.specs.declared.literals.Literal.{Literal}
 use Rattle.words.specs.declared.literals.Literal.TheVariants.{Fixnum, Character, Null}
 use Rattle.fields.specs.Fields.{field_text}
-use Rattle.fields.proofs.Apart.{free-from-graphic, field-one}
+use Rattle.fields.proofs.Apart.{decimal-free, literal-free, free-from-graphic, field-one}
 use Rattle.lines.specs.Lines.{Free}
-use Rattle.numerals.specs.Numbers.{Small, Graphic}
-use Rattle.numerals.proofs.Decimals.{numeral-decimal, decimal-graphic, decimal-one}
+use Rattle.numerals.specs.Numbers.{Small}
+use Rattle.numerals.proofs.Decimals.{numeral-decimal, decimal-one}
 use Rattle.literals.specs.Literals.{literal_text}
 use Rattle.operations.specs.Names.{name_of}
 use Rattle.operations.specs.declared.Op.{Op}
@@ -17,7 +17,7 @@ use Rattle.parttext.specs.Grammar.{Value, number, literal, value_text, SmallValu
 use Rattle.parttext.specs.declared.Line.{Line}
 use Rattle.parttext.proofs.Forms.{Fields, build, build-form, keys, keys-same}
 use Rattle.operations.specs.Laws.{name-one, name_graphic}
-use Rattle.literals.specs.Laws.{literal-graphic, literal-one}
+use Rattle.literals.specs.Laws.{literal-one}
 
 -- A value of the store begins with a letter, and a number does not.
 apart : (n : ℕ) (v : Literal) → Small n → decimal n ≡ literal_text v → ⊥
@@ -35,15 +35,12 @@ value-one (number m) (literal w) h k e = absurd (apart m w h e)
 value-one (literal v) (number n) h k e = absurd (apart n v k (sym e))
 value-one (literal v) (literal w) h k e = ap literal (literal-one v w h k e)
 
-value-graphic : (v : Value) → SmallValue v → Graphic (value_text v)
-value-graphic (number n) s = decimal-graphic n s
-value-graphic (literal v) s = literal-graphic v s
-
-value-free : (b : ℕ) (v : Value) → b ≤ 32 → SmallValue v → Free b (value_text v)
-value-free b v l s = free-from-graphic b (value_text v) l (value-graphic v s)
+value-free : (b : ℕ) (v : Value) → b < 45 → SmallValue v → Free b (value_text v)
+value-free b (number n) h s = decimal-free b n h s
+value-free b (literal v) h s = literal-free b v h s
 
 -- One field after another, the same keys and the same text give the same values.
-head-one : (end : ℕ) (f g : String × Value) (r t : List ℕ) → end ≤ 32 → f.0 ≡ g.0 → SmallValue f.1 → SmallValue g.1 →
+head-one : (end : ℕ) (f g : String × Value) (r t : List ℕ) → end < 45 → f.0 ≡ g.0 → SmallValue f.1 → SmallValue g.1 →
     field_text (codes f.0) (value_text f.1) end r ≡ field_text (codes g.0) (value_text g.1) end t → (f ≡ g) × (r ≡ t)
 head-one end f g r t l k h j e =
     let e' = e ∙ ap (λ (s : String). field_text (codes s) (value_text g.1) end t) (sym k) in
