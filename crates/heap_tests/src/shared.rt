@@ -9,11 +9,15 @@ pub(crate) const EMPTY: Windows = Windows {
     read_only: 0,
 };
 
-// Windows for one kind, and none for the others.
+// Windows for one kind, at its place written out, and none for the others.
 pub(crate) fn alone(kind: Kind, windows: Windows) -> [Windows; Kind::COUNT] {
-    let mut all = [EMPTY; Kind::COUNT];
-    all[kind.index()] = windows;
-    all
+    match kind {
+        Kind::UVector => [windows, EMPTY, EMPTY, EMPTY, EMPTY],
+        Kind::String => [EMPTY, windows, EMPTY, EMPTY, EMPTY],
+        Kind::BVector => [EMPTY, EMPTY, windows, EMPTY, EMPTY],
+        Kind::Symbol => [EMPTY, EMPTY, EMPTY, windows, EMPTY],
+        Kind::List => [EMPTY, EMPTY, EMPTY, EMPTY, windows],
+    }
 }
 
 // A memory lent with stacks that have no room.
