@@ -1,15 +1,16 @@
 -- The calls that read and write registers and cells, over machines.
-use Rattle.std.specs.Prelude.{ℕ, Bool, true, cond, ◌&&◌, List, [], ◌∷◌, is_some, Some, None, Ok, Err, Option, Result, ◌==◌, nat_le}
+use Rattle.std.specs.Prelude.{ℕ, Bool, true, cond, ◌&&◌, List, [], ◌∷◌, is_some, Some, None, Ok, Err, Option, Result, ◌==◌, nat_le, nat_lt}
 use Rattle.words.specs.Literals.{word_of, literal_of}
 use Rattle.words.specs.declared.literals.Literal.{Literal}
 use Rattle.words.specs.declared.literals.Literal.TheVariants.{Fixnum, Character, Null}
+use Rattle.kinds.specs.Kinds.{code}
 use Rattle.answers.specs.declared.Told.{Told}
 use Rattle.answers.specs.declared.Told.TheVariants.{Fixnum as told_fixnum, Character as told_character, Null as told_null, Object as told_object}
 use Rattle.answers.specs.declared.Refusal.{Refusal}
 use Rattle.answers.specs.declared.Refusal.TheVariants.{OutOfBounds, Unfit, Frozen, DynamicInReadOnly}
 use Rattle.layout.specs.Machine.{Table, Machine, low, register_at, with_register, with_words}
 use Rattle.store.specs.Checks.{dynamic_word}
-use Rattle.spaces.specs.Spaces.{lies_in, space_at}
+use Rattle.spaces.specs.Spaces.{space_at}
 use Rattle.store.specs.Flow.{after, admission}
 use Rattle.objects.specs.declared.opened.Opened.{Opened}
 use Rattle.objects.specs.Open.{next, opened}
@@ -50,9 +51,9 @@ write_done control bindings into k value =
     (λ m. after m (opened m.table m.words (register_at m into))
     (λ o. after m (write_refused m.table o k (register_at m value)) (λ _. written m (saved o k (register_at m value) m.words))))
 
--- What is told of an opened object; both dynamic spaces are told as one.
+-- What is told of an opened object; both dynamic spaces are told as 0.
 abbrev pub told_opened : Opened → Told
-told_opened o = told_object o.kind (lies_in o.space) o.cells
+told_opened o = told_object (code o.kind) (cond (nat_lt o.space 2) 0 o.space) o.cells
 
 -- What is told of a word, by the literal that it stands for, if any.
 abbrev pub told_as : Table → List ℕ → ℕ → Option Literal → Result Told Refusal

@@ -105,10 +105,9 @@ fn told<M: WordMemory>(store: &Store, memory: &M, word: u32) -> Result<Told, Ref
         Ok(literal) => Ok(Told::from(literal)),
         Err(NoLiteral) => {
             let object = open(store, memory, word)?;
-            let space = Space::try_from(object.space).unwrap_or(Space::Dynamic);
-            // Space code 1, the other dynamic space, is no number that callers use: it is told as dynamic.
+            let space = if object.space < 2 { 0 } else { object.space };
             Ok(Told::Object {
-                kind: object.kind,
+                code: object.kind.shape().code,
                 space,
                 cells: object.cells,
             })

@@ -7,10 +7,10 @@ ghost use Rattle.answers.specs.Shown.{fault_shown, told_shown};
 ghost use Rattle.answers.specs.Telling.{told_of};
 ghost use Rattle.answers.specs.declared.Refusal.TheVariants.{Unknown, WrongKind, OutOfBounds, Short, NoForm as no_form};
 
-use kinds::{Kind, UnknownKind};
+use kinds::UnknownKind;
 use memory::OutOfRange;
 use numerals::NoForm;
-use spaces::{Space, UnknownSpace};
+use spaces::UnknownSpace;
 use std::fmt;
 use words::{Literal, NoWord};
 
@@ -20,12 +20,9 @@ pub enum Told {
     Fixnum(i32),
     Character(u32),
     Null,
-    /// An object: its kind, its space (both dynamic ones are one), how many cells or entries it has.
-    Object {
-        kind: Kind,
-        space: Space,
-        cells: u32,
-    },
+    // Numbers and no enums: a listing is made of any type code, also of one that no kind has.
+    /// An object: the type code of its kind, its space (0 for both dynamic ones), how many cells or entries it has.
+    Object { code: u32, space: u32, cells: u32 },
 }
 
 /// A value as a part text writes it, an object by the type code of its kind.
@@ -37,7 +34,7 @@ impl fmt::Display for Told {
             Told::Fixnum(value) => write!(f, "f{value}"),
             Told::Character(code) => write!(f, "c{code}"),
             Told::Null => f.write_str("n"),
-            Told::Object { kind, .. } => write!(f, "o{}", kind.shape().code),
+            Told::Object { code, .. } => write!(f, "o{code}"),
         }
     }
 }

@@ -6,13 +6,12 @@ use Rattle.words.specs.Literals.{literal_range}
 use Rattle.words.specs.declared.literals.Literal.{Literal}
 use Rattle.words.specs.declared.literals.Literal.TheVariants.{Fixnum, Character, Null}
 use Rattle.kinds.specs.Kinds.{takes, is_unset, is_a}
-use Rattle.spaces.specs.Spaces.{lies_in}
 use Rattle.answers.specs.declared.Told.{Told}
 use Rattle.answers.specs.declared.Told.TheVariants.{Fixnum as told_fixnum, Character as told_character, Null as told_null, Object as told_object}
 use Rattle.answers.specs.declared.Refusal.{Refusal}
 use Rattle.answers.specs.declared.Refusal.TheVariants.{Unknown, WrongKind, OutOfBounds, Unset, Unfit, Frozen, DynamicInReadOnly, NoRoom, Short}
 use Rattle.graph.specs.Graph.{fixnum, character, null, trap, Value, plain, ref, Kind, uvector, string, bvector, symbol, list, Object, Graph, nothing, object, put_cell, put_register, add_object}
-use Rattle.graph.specs.Shape.{index, boxed, size, entry_of}
+use Rattle.graph.specs.Shape.{code, index, boxed, size, entry_of}
 use Rattle.graph.specs.Lawful.{class_of}
 
 -- A graph, and for each kind and space the words in use and the words that the window has.
@@ -186,7 +185,7 @@ told s (plain (fixnum d)) = told_fixnum (signed d)
 told s (plain (character c)) = told_character c
 told s (plain null) = told_null
 told s (plain trap) = told_null
-told s (ref i) = told_object (object s.graph i).kind (lies_in (object s.graph i).space) (length (object s.graph i).cells)
+told s (ref i) = told_object (code (object s.graph i).kind) (object s.graph i).space (length (object s.graph i).cells)
 
 -- Tells what a register holds.
 abbrev pub tell : Bool → ℕ → Call Told

@@ -27,7 +27,7 @@ mod tests {
 
     fn told_space(r: Result<Told, Refusal>) -> u32 {
         match r {
-            Ok(Told::Object { space, .. }) => u32::from(space),
+            Ok(Told::Object { space, .. }) => space,
             _ => 99,
         }
     }

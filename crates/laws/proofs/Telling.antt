@@ -1,5 +1,5 @@
 -- Telling and comparing answer as the graph does.
-use Rattle.std.proofs.Common.{◌≡◌, ℕ, zero, suc, ◌/◌, ◌<◌, true, false, ◌&&◌, eqb, ltb, leb, List, [], length, Some, None, Ok, sym, refl, ap, ◌∙◌, inl, inr, arith}
+use Rattle.std.proofs.Common.{◌≡◌, ℕ, zero, suc, ◌/◌, ◌<◌, true, false, cond, ◌&&◌, eqb, ltb, leb, ◌≢◌, List, [], length, Some, None, Ok, sym, refl, ap, ◌∙◌, inl, inr, arith}
 use Rattle.std.proofs.lemmas.Bool.Decides.{nat_tests}
 use Rattle.std.proofs.lemmas.Bool.{cases_eq, cases_Bool, eq-eqb, ne_eqb, true≢false}
 use Rattle.words.specs.Words.{type_of, space_of, signed, fixnum_word, character_word, null_word}
@@ -7,8 +7,7 @@ use Rattle.words.specs.Literals.{literal_of}
 use Rattle.words.specs.declared.literals.Literal.TheVariants.{Fixnum, Character}
 use Rattle.words.proofs.Coding.{signed_range, data-signed}
 use Rattle.words.proofs.LiteralWords.{literal-of-word}
-use Rattle.kinds.specs.Kinds.{is_unset}
-use Rattle.spaces.specs.Spaces.{lies_in}
+use Rattle.kinds.specs.Kinds.{is_unset, code}
 use Rattle.answers.specs.declared.Told.{Told}
 use Rattle.graph.specs.Graph.{fixnum, character, null, trap, Value, plain, ref, object}
 use Rattle.graph.specs.Lawful.{class_of}
@@ -55,12 +54,9 @@ told-null : (t : Table) (ws : List ℕ) → told_word t ws null_word ≡ Ok Ratt
 unfolding told_word
 told-null t ws = refl
 
--- the dynamic space in use is told as dynamic
-space-told : (now s : ℕ) → now < 2 → lies_in (now_space now s) ≡ lies_in s
-space-told zero zero a = refl
-space-told (suc zero) zero a = refl
-space-told (suc (suc now)) zero a = absurd (omega (arith, a))
-space-told now (suc s) a = let e : now_space now (suc s) ≡ suc s = rw (ne_eqb (suc s) 0 (λ e. omega (arith, e))) refl in ap lies_in e
+-- both dynamic spaces are told as 0
+space-told : (now s : ℕ) → now < 2 → s ≢ 1 → cond (ltb (now_space now s) 2) 0 (now_space now s) ≡ s
+space-told now s a b = elim (cases_eq s 0) [ inl e ↦ grind (arith, nat_tests) | inr d ↦ grind (arith, nat_tests) ]
 
 told-value : (m : Machine) (s : State) (d : Depicts m s) (w : ℕ) (v : Value) → Means d.shows.0 false w v → is_unset (class_of (objects_of s) v) ≡ false → told_word m.table m.words w ≡ Ok (told s v)
 told-value m s d w (plain (fixnum x)) h u = rw h.0 (told-fixnum m.table m.words x h.1)
@@ -74,9 +70,9 @@ told-value m s d w (ref i) h u =
     let c = code-pointer (p.kind i) in
     let n = q.map.range i (means-ref p w i h).0 in
     let z = told-by m.table m.words w (opened_with m.table w (object s.graph i).kind (length (object s.graph i).cells, (object s.graph i).access)) (pointer-told w (omega (arith, c.0, l.type-is))) (opened-there p m s.graph q w i h) in
-    let sp : lies_in (space_of w) ≡ lies_in (object s.graph i).space =
-    rw l.space_is (space-told p.now (p.space i) (now-below p m.table q.frame q.map) ∙ ap lies_in (q.memory.space_is i n)) in
-    z ∙ ap (λ y. Ok (Rattle.answers.specs.declared.Told.TheVariants.Object (object s.graph i).kind y (length (object s.graph i).cells))) sp
+    let sp : cond (ltb (space_of w) 2) 0 (space_of w) ≡ (object s.graph i).space =
+    rw l.space_is (space-told p.now (p.space i) (now-below p m.table q.frame q.map) (q.map.spaces i n).1 ∙ q.memory.space_is i n) in
+    z ∙ ap (λ y. Ok (Rattle.answers.specs.declared.Told.TheVariants.Object (code (object s.graph i).kind) y (length (object s.graph i).cells))) sp
 
 pub tell-answers : (control bindings of : ℕ) (m : Machine) → Answers (tell (short m control bindings) of) m (tell_done control bindings of m).0 (tell_done control bindings of m).1
 unfolding tell_done

@@ -4,7 +4,6 @@ use Rattle.std.specs.Prelude.{ℕ, ◌+◌, List, [], ◌∷◌, ◌++◌, codes
 use Rattle.words.specs.declared.literals.Literal.TheVariants.{Fixnum as FixnumLiteral, Character as CharacterLiteral, Null as NullLiteral}
 use Rattle.lines.specs.Lines.{newline}
 use Rattle.literals.specs.Literals.{literal_text}
-use Rattle.kinds.specs.Kinds.{code}
 use Rattle.answers.specs.Numbers.{number_of}
 use Rattle.answers.specs.declared.TextFault.{TextFault}
 use Rattle.answers.specs.declared.Told.{Told}
@@ -15,7 +14,7 @@ abbrev pub told_text : Told → List ℕ
 told_text (Fixnum z) = literal_text (FixnumLiteral z)
 told_text (Character c) = literal_text (CharacterLiteral c)
 told_text Null = literal_text NullLiteral
-told_text (Object kind space cells) = codes "o" ++ decimal (code kind)
+told_text (Object code space cells) = codes "o" ++ decimal code
 
 -- The line that names a register by its number, and what it holds by its text.
 abbrev pub value_line : ℕ → List ℕ → List ℕ
@@ -26,7 +25,7 @@ abbrev pub register_line : ℕ → Told → List ℕ
 register_line r (Fixnum z) = value_line r (told_text (Fixnum z))
 register_line r (Character c) = value_line r (told_text (Character c))
 register_line r Null = []
-register_line r (Object kind space cells) = value_line r (told_text (Object kind space cells))
+register_line r (Object code space cells) = value_line r (told_text (Object code space cells))
 
 -- The lines of the registers that hold these, the first of them register r.
 abbrev pub listing_from : ℕ → List Told → List ℕ

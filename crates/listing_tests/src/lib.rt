@@ -4,20 +4,30 @@
 #[cfg(test)]
 mod tests {
     use answers::{Refusal, TextFault, Told};
-    use kinds::Kind;
     use listing::{fault_line, listing_of};
-    use spaces::Space;
     use std::test::Fail;
 
     #[test]
     fn a_register_that_holds_null_has_no_line(rt: HostRuntime) -> Result<(), Fail> {
         let list = Told::Object {
-            kind: Kind::List,
-            space: Space::Dynamic,
+            code: 11,
+            space: 0,
             cells: 2,
         };
         let text = listing_of(rt.alloc(), &[Told::Fixnum(7), Told::Null, list])?;
         assert_eq!(rt; text.as_str(), "reg=0 value=f7\nreg=2 value=o11\n");
+        Ok(())
+    }
+
+    #[test]
+    fn a_type_code_that_no_kind_has_is_listed(rt: HostRuntime) -> Result<(), Fail> {
+        let other = Told::Object {
+            code: 12,
+            space: 5,
+            cells: 0,
+        };
+        let text = listing_of(rt.alloc(), &[other])?;
+        assert_eq!(rt; text.as_str(), "reg=0 value=o12\n");
         Ok(())
     }
 

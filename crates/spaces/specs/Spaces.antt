@@ -1,6 +1,5 @@
 -- The spaces that objects are made in.
 use Rattle.std.specs.Prelude.{ℕ, cond, Some, None, Option, ◌==◌}
-use Rattle.std.specs.Option.{unwrap_or}
 use Rattle.spaces.specs.declared.Space.{Space}
 use Rattle.spaces.specs.declared.Space.TheVariants.{Dynamic, Static, ReadOnly}
 
@@ -13,7 +12,3 @@ code_of ReadOnly = 3
 -- The space that has this number.
 abbrev pub space_at : ℕ → Option Space
 space_at n = cond (n == 0) (Some Dynamic) (cond (n == 2) (Some Static) (cond (n == 3) (Some ReadOnly) None))
-
--- The space that an object with this space code lies in; the other dynamic space, 1, is dynamic too.
-abbrev pub lies_in : ℕ → Space
-lies_in n = unwrap_or (space_at n) Dynamic
