@@ -62,7 +62,7 @@ fields-one (f ∷ (f₂ ∷ fs)) (g ∷ (g₂ ∷ gs)) k h j e =
     let q = fields-one (f₂ ∷ fs) (g₂ ∷ gs) (cc) h.1 j.1 p.1 in
     λ i. p.0 i ∷ q i
 
-name_free : (o : Op) → Free 32 (name_of o)
+pub name_free : (o : Op) → Free 32 (name_of o)
 name_free o = free-from-graphic 32 (name_of o) (omega arith) (name_graphic o)
 
 -- Two lines that a text spells are one.
